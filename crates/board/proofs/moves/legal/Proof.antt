@@ -1,0 +1,23 @@
+-- `board::moves::legal` meets its contract: the empty cell that the position holds is the board's. Assumes nothing.
+use mathlib.Core.Path.{_∙_, ap, sym}
+use Prim.Native.Nat.{ℕ, _<_}
+use mathlib.Core.Path.{subst}
+use Rattle.board.specs.Shape.{cells}
+use Rattle.board.specs.Moves.{staysOn, legal}
+use Rattle.board.proofs.Boards.{empty-inside}
+use Rattle.board.proofs.moves.legal.Statement.{statement}
+use Rattle.board.proofs.moves.legal.Tie as tie
+
+stays-on-requires : tie.Need-stays-on-requires
+stays-on-requires c κs =
+    let h = c .pre in
+    (h .shape, subst (λ (e : ℕ). e < cells (c .args .shape)) (sym (h .empty)) (empty-inside _ _ (h .shape) (h .board)))
+
+returns : tie.Need-returns
+unfolding legal
+returns c =
+    let a = c .before .args in
+    c .stays-on .ensures ∙ ap (λ (e : ℕ). staysOn (a .shape) e (a .m)) (c .before .pre .empty)
+
+pub legal-spec : {M : Type 1} → statement M
+legal-spec = tie.close (tie.spec stays-on-requires returns)

@@ -1,0 +1,57 @@
+// A tested board taken into a struct by value, and the goal test.
+use crate::Position;
+use crate::Shape;
+use crate::faults::first_holding;
+ghost use mathlib.Core.Path.{_≡_};
+ghost use Rattle.board.specs.Shape.{cells, GoodShape};
+ghost use Prim.Native.Nat.{_<_};
+ghost use Rattle.board.specs.Board.{at, IsBoard, isGoal};
+ghost use Rattle.board.specs.Held.{held, Taken};
+
+// The board, held.
+pub fn hold(shape: Shape, board: &[u8]) -> Position
+    requires { ⌜ GoodShape shape ⌝ }
+    requires { ⌜ IsBoard shape (now board) ⌝ }
+    ensures { λ r. ⌜ Taken shape (now (board .entry)) r ⌝ }
+{
+    let mut cells = [0u8; 16];
+    let mut i = 0;
+    while i < board.len() {
+        cells[i] = board[i];
+        i += 1;
+    }
+    let empty = first_holding(board, 0, board.len());
+    Position { cells, empty }
+}
+
+// n, the number of cells.
+pub fn cell_count(shape: Shape) -> usize
+    requires { ⌜ GoodShape shape ⌝ }
+    ensures { λ r. ⌜ r ≡ cells shape ⌝ }
+{
+    shape.width * shape.height
+}
+
+// Yes exactly if the held board is the goal.
+pub fn is_goal(shape: Shape, p: Position) -> bool
+    requires { ⌜ GoodShape shape ⌝ }
+    ensures { λ r. ⌜ r ≡ isGoal shape (held shape p) ⌝ }
+{
+    let n = cell_count(shape);
+    let mut i = 0;
+    while i < n {
+        if number_at(p, i) != i {
+            return false;
+        }
+        i += 1;
+    }
+    true
+}
+
+// What stands in cell i, as a number that can be an index.
+pub fn number_at(p: Position, i: usize) -> usize
+    requires { ⌜ i < 16 ⌝ }
+    ensures { λ r. ⌜ r ≡ at (p .cells) i ⌝ }
+{
+    p.cells[i] as usize
+}
