@@ -24,7 +24,9 @@ pub fn is_odd(shape: Shape, p: Position) -> bool
     }
     let width = shape.width;
     let e = p.empty;
-    (sum + e / width + e % width) % 2 == 1
+    let row = e / width;
+    let column = e % width;
+    (sum + row + column) % 2 == 1
 }
 
 // How many of the cells after cell i hold less than it.

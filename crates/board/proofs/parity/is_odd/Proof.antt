@@ -65,6 +65,20 @@ abbrev μ-loop : tie.MeasureT-loop
 empty-below : (s : Shape) (p : Position) → Holds s p → p .empty < cells s
 empty-below s p holds = subst (λ (e : ℕ). e < cells s) (sym (holds .empty)) (empty-inside s (held s p) (holds .shape) (holds .board))
 
+-- what bounds the sum: the cells, and the empty cell's row and column
+record SumRoom (s : Shape) (p : Position) : Type 0 where
+  count : cells s ≤ 16
+  row-below : p .empty / s .width < 4
+  column-below : p .empty % s .width < 4
+
+sum-room : (s : Shape) (p : Position) → Holds s p → SumRoom s p
+sum-room s p h =
+    record {
+      count = cells-within (h .shape) .most;
+      row-below = omega (arith, cell-row (h .shape) (p .empty) (empty-below s p h), side-within (h .shape .high));
+      column-below = omega (arith, cell-column (h .shape) (p .empty), side-within (h .shape .wide));
+    }
+
 cell-count-requires : tie.Need-cell-count-requires Inv-loop μ-loop
 cell-count-requires c κs = c .pre .shape
 
@@ -94,30 +108,17 @@ loop-less c = omega arith
 loop-again : tie.Need-loop-again Inv-loop μ-loop
 loop-again c = one-more _ _ _ _ _ (c .before .before .loop .inv) (c .before .loop-test .taken) (c .lower-after .ensures)
 
-div-result : tie.Need-div-result Inv-loop μ-loop
-div-result c = omega (arith, side-within (c .before .before .before .pre .shape .wide))
+div-row : tie.Need-div-row Inv-loop μ-loop
+div-row c = omega (arith, side-within (c .before .before .before .pre .shape .wide))
+
+rem-column : tie.Need-rem-column Inv-loop μ-loop
+rem-column c = omega (arith, side-within (c .before .before .before .pre .shape .wide))
 
 add-result : tie.Need-add-result Inv-loop μ-loop
-add-result c =
-    let start = c .before .before .before in
-    let h = start .pre in
-    omega (arith, cells-within (h .shape), side-within (h .shape .high), cell-row (h .shape) (start .args .p .empty) (empty-below _ _ h))
-
-rem-result : tie.Need-rem-result Inv-loop μ-loop
-rem-result c = omega (arith, side-within (c .before .before .before .pre .shape .wide))
+add-result c = omega (arith, c .before .before, sum-room _ _ (c .before .before .before .pre))
 
 add-result-2 : tie.Need-add-result-2 Inv-loop μ-loop
-add-result-2 c =
-    let start = c .before .before .before in
-    let h = start .pre in
-    omega (
-      arith,
-      cells-within (h .shape),
-      side-within (h .shape .high),
-      side-within (h .shape .wide),
-      cell-row (h .shape) (start .args .p .empty) (empty-below _ _ h),
-      cell-column (h .shape) (start .args .p .empty),
-    )
+add-result-2 c = omega (arith, c .before .before, sum-room _ _ (c .before .before .before .pre))
 
 returns : tie.Need-returns Inv-loop μ-loop
 returns c =
@@ -136,8 +137,8 @@ is-odd-spec =
     add-i
     loop-less
     loop-again
-    div-result
+    div-row
+    rem-column
     add-result
-    rem-result
     add-result-2
     returns)

@@ -1,0 +1,44 @@
+-- `planner::call::searched` meets its contract: it is the visit to the start with F = f and an infinite bound. Assumes nothing.
+use borrow.Author.Needs.{needs}
+use native.Mathlib.Omega.{arith}
+use Rattle.planner.proofs.Calling.{started}
+use Rattle.planner.proofs.call.searched.Statement.{statement}
+use Rattle.planner.proofs.call.searched.Tie as tie
+
+distances-requires : tie.Need-distances-requires
+distances-requires c κs = search needs
+
+four-wide-cells-requires : tie.Need-four-wide-cells-requires
+four-wide-cells-requires c κs = search needs
+
+static-value-requires : tie.Need-static-value-requires
+static-value-requires c κs = search needs
+
+visit-requires : tie.Need-visit-requires
+visit-requires c κs =
+    let start = c .before .before .before .before .before .before .before .before .before .before .before in (
+      start .pre .0 .0,
+      (start .pre .0 .1, (omega arith, ((c .before .before .before .before .before .before .before .before .distances .ensures, c .before .before .before .before .before .before .before .four-wide-cells .ensures), start .pre .1))),
+    )
+
+same-length : tie.Need-same-length
+same-length c = search needs
+
+same-length-2 : tie.Need-same-length-2
+same-length-2 c = search needs
+
+returns : tie.Need-returns
+returns c =
+    started _ _ _ _ _ _ _ _ _ (c .before .before .before .before .before .before .before .before .before .static-value .ensures) (c .before .before .before .before .visit .ensures)
+
+pub searched-spec : {M : Type 1} → statement M
+searched-spec =
+    tie.close
+    (tie.spec
+    distances-requires
+    four-wide-cells-requires
+    static-value-requires
+    visit-requires
+    same-length
+    same-length-2
+    returns)

@@ -1,0 +1,16 @@
+-- `planner::row::other` meets its contract: the code's test is the definition's. Assumes nothing.
+use borrow.Author.Tests.{eq-eqb, ne-eqb}
+use Rattle.planner.specs.Row.{masked}
+use Rattle.planner.proofs.row.other.Statement.{statement}
+use Rattle.planner.proofs.row.other.Tie as tie
+
+returns : tie.Need-returns
+unfolding masked
+returns c = rw (eq-eqb _ _ (c .if1 .taken))
+
+returns-2 : tie.Need-returns-2
+unfolding masked
+returns-2 c = rw (ne-eqb _ _ (c .if1 .left))
+
+pub other-spec : {M : Type 1} → statement M
+other-spec = tie.close (tie.spec returns returns-2)
