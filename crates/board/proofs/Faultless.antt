@@ -1,48 +1,26 @@
--- Tests 1 to 4 mean what they say. Each test by itself: a side is not bad, no cell is too large, no cell repeats another. Then
--- the whole: `tested` answers Sound exactly for a good shape and a board of it, and gives that shape. Assumes nothing.
+-- Tests 1 to 4 mean what they say. Each test by itself: no cell is too large, no cell repeats another. Then the whole: `tested`
+-- answers Sound exactly for a good shape and a board of it, and gives that shape; a fault's cell is one of sixteen. Assumes nothing.
 use Prim.Native.Nat.{ℕ, zero, suc, _*_, _≤_, _<_}
-use mathlib.Core.Path.{_≡_, refl, _∙_}
+use mathlib.Core.Path.{_≡_, refl, subst, _∙_}
 use mathlib.Core.Logic.{_↔_}
-use mathlib.Core.Bool.{Bool, true, false, not, cond, _||_, true≢false}
+use mathlib.Core.Bool.{Bool, true, false, not, cond, _||_}
 use mathlib.Core.List.{List}
 use native.Mathlib.Omega.{arith}
 use lib.Dec.{ltb, leb, eqb}
 use lib.ListN.{length}
-use borrow.Author.Tests.{ltb-false, leb-false, eqb-true, eqb-false, not-false, lt-leb, le-ltb, eq-eqb, ne-eqb}
+use borrow.Author.Tests.{ltb-true, ltb-false, leb-false, eqb-true, eqb-false, not-false, lt-leb, le-ltb, eq-eqb, ne-eqb}
 use Rattle.board.specs.declared.Shape.{Shape}
 use Rattle.board.specs.declared.Fault.{Fault}
+use Rattle.board.specs.declared.Fault.the-variants.{BadShape, BadLength, TooLarge, Repeated}
 use Rattle.board.specs.declared.Tested.{Tested}
 use Rattle.board.specs.declared.Tested.the-variants.{Sound, Faulty}
 use Rattle.board.specs.First.{firstOf}
-use Rattle.board.specs.Shape.{cells, Side, two, three, four, GoodShape, badSide}
+use Rattle.board.specs.Shape.{cells, GoodShape, badSide}
 use Rattle.board.specs.Board.{at, IsBoard}
-use Rattle.board.specs.Faults.{firstTooLarge, firstHolding, repeats, firstRepeat, tested}
+use Rattle.board.specs.Faults.{firstTooLarge, firstHolding, repeats, firstRepeat, tested, faultCell}
 use Rattle.board.proofs.Firsts.{firstOf-high, firstOf-fails, firstOf-none}
 use Rattle.board.proofs.Onto.{Small, Once}
-
--- ---- test 1
-
-both-false : (t u : Bool) → (t || u) ≡ false → (t ≡ false) × (u ≡ false)
-both-false true u e = absurd (true≢false e)
-both-false false u e = (refl, e)
-
-side : (k : ℕ) → 2 ≤ k → k ≤ 4 → Side k
-side zero l h = absurd (omega arith)
-side (suc zero) l h = absurd (omega arith)
-side (suc (suc zero)) l h = two
-side (suc (suc (suc zero))) l h = three
-side (suc (suc (suc (suc zero)))) l h = four
-side (suc (suc (suc (suc (suc k))))) l h = absurd (omega arith)
-
-good-side : (k : ℕ) → badSide k ≡ false → Side k
-good-side k e =
-    let each = both-false (ltb k 2) (ltb 4 k) e in
-    side k (ltb-false k 2 (each .0)) (ltb-false 4 k (each .1))
-
-side-good : {k : ℕ} → Side k → badSide k ≡ false
-side-good two = refl
-side-good three = refl
-side-good four = refl
+use Rattle.board.proofs.Sides.{neither, side-passes, passing-side, cells-within}
 
 -- ---- test 3
 
@@ -109,9 +87,9 @@ sound-given w h b s e =
     let second = passed (not (eqb (length b) n)) _ _ s (first .1) in
     let third = passed (ltb (firstTooLarge n b) n) _ _ s (second .1) in
     let fourth = passed (ltb (firstRepeat n b) n) _ _ s (third .1) in
-    let sides = both-false (badSide w) (badSide h) (first .0) in (
+    let sides = neither (badSide w) (badSide h) (first .0) in (
       cc (fourth .1),
-      record { wide = good-side w (sides .0); high = good-side h (sides .1) },
+      record { wide = passing-side w (sides .0); high = passing-side h (sides .1) },
       record {
         long = eqb-true (length b) n (not-false (eqb (length b) n) (second .0));
         small = none-too-large n b .0 (omega (arith, ltb-false (firstTooLarge n b) n (third .0), too-large-within n b));
@@ -125,6 +103,39 @@ sound-means w h b s e = let all = sound-given w h b s e in (all .0, rw (all .0) 
 pub faultless-sound : (s : Shape) (b : List ℕ) → GoodShape s → IsBoard s b → tested (s .width) (s .height) b ≡ Sound s
 unfolding tested
 faultless-sound s b shape board =
-    rw (side-good (shape .wide), side-good (shape .high), eq-eqb (length b) (cells s) (board .long))
+    rw (side-passes (shape .wide), side-passes (shape .high), eq-eqb (length b) (cells s) (board .long))
     (rw (none-too-large (cells s) b .1 (board .small), none-repeats (cells s) b .1 (board .once))
     (rw (le-ltb (cells s) (cells s) (omega arith))))
+
+-- ---- where a fault's cell lies
+
+is-cell : {g : Fault} (f : Fault) → _≡_ {A = Tested} (Faulty g) (Faulty f) → faultCell g ≤ 15 → faultCell f ≤ 15
+is-cell {g} f e h =
+    let same : g ≡ f = cc in
+    subst (λ (x : Fault). faultCell x ≤ 15) same h
+
+chain-cell :
+    (one two three four : Bool) (n large repeat : ℕ) (s : Shape) (f : Fault)
+    → (one ≡ false → n ≤ 16)
+    → (three ≡ true → large < n)
+    → (four ≡ true → repeat < n)
+    → cond one (Faulty BadShape) (cond two (Faulty BadLength) (cond three (Faulty (TooLarge large)) (cond four (Faulty (Repeated repeat)) (Sound s)))) ≡ Faulty f
+    → faultCell f ≤ 15
+chain-cell true two three four n large repeat s f few l r e = is-cell f e (omega arith)
+chain-cell false true three four n large repeat s f few l r e = is-cell f e (omega arith)
+chain-cell false false true four n large repeat s f few l r e = is-cell f e (omega (arith, l refl, few refl))
+chain-cell false false false true n large repeat s f few l r e = is-cell f e (omega (arith, r refl, few refl))
+chain-cell false false false false n large repeat s f few l r e = let z : _≡_ {A = ℕ} 0 1 = cc in absurd (omega arith)
+
+pub fault-cell-inside : (w h : ℕ) (b : List ℕ) (f : Fault) → tested w h b ≡ Faulty f → faultCell f ≤ 15
+unfolding tested
+fault-cell-inside w h b f e =
+    chain-cell (badSide w || badSide h) (not (eqb (length b) (w * h))) (ltb (firstTooLarge (w * h) b) (w * h))
+    (ltb (firstRepeat (w * h) b) (w * h)) (w * h) (firstTooLarge (w * h) b) (firstRepeat (w * h) b) (given w h) f few
+    (ltb-true (firstTooLarge (w * h) b) (w * h)) (ltb-true (firstRepeat (w * h) b) (w * h)) e
+  where
+    few : badSide w || badSide h ≡ false → w * h ≤ 16
+    few sides =
+        let each = neither (badSide w) (badSide h) sides in
+        let good : GoodShape (given w h) = record { wide = passing-side w (each .0); high = passing-side h (each .1) } in
+        cells-within good .most

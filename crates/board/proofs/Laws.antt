@@ -8,7 +8,7 @@ pub use Rattle.board.proofs.Firsts.{firstOf-ends}
 -- the pigeonhole
 pub use Rattle.board.proofs.Onto.{Small, Once, Stands, onto}
 -- shapes: sides, how many cells, rows and columns
-pub use Rattle.board.proofs.Sides.{Within, side-passes, passing-side, side-within, cells-within, cell-row, cell-column}
+pub use Rattle.board.proofs.Sides.{neither, Within, side-passes, passing-side, side-within, cells-within, cell-row, cell-column}
 -- the cells of a board, the empty cell, the goal
 pub use Rattle.board.proofs.Boards.{stands, same-cell}
 pub use Rattle.board.proofs.Boards.{empty-inside, empty-holds-0, only-empty}
@@ -40,4 +40,4 @@ pub use Rattle.board.proofs.Parities.{goal-inversions, goal-not-odd, mo
 pub use Rattle.board.proofs.Parities.{odd-never-solved}
 -- tests 1 to 4
 pub use Rattle.board.proofs.Faultless.{none-too-large, too-large-within, none-repeats, repeat-within, sound-means}
-pub use Rattle.board.proofs.Faultless.{faultless-sound}
+pub use Rattle.board.proofs.Faultless.{faultless-sound, fault-cell-inside}

@@ -15,6 +15,11 @@ side-passes two = refl
 side-passes three = refl
 side-passes four = refl
 
+-- neither test holds
+pub neither : (t u : Bool) → t || u ≡ false → (t ≡ false) × (u ≡ false)
+neither true u e = absurd (false≢true (sym e))
+neither false u e = (refl, e)
+
 or-true : (t : Bool) → t || true ≡ true
 or-true true = refl
 or-true false = refl

@@ -67,7 +67,7 @@ module _ (c : Call) (good : GoodBoard c) (clean : Clear c (shapeOf c)) where
         reaches-solves (shapeOf c) (c .board) ms (good .shape) (good .board)
         (plan-reaches _ _ (board-laws (shapeOf c) (good .shape)) _ _ _ fair (c .board) (good .board) (c .budget) run)
 
-    found-within : length ms ≤ ceilingOf (c .ceiling)
+    pub found-within : length ms ≤ ceilingOf (c .ceiling)
     unfolding searched
     found-within = plan-within _ _ (board-laws (shapeOf c) (good .shape)) _ _ _ fair (c .board) (good .board) (c .budget) run
 
@@ -102,7 +102,7 @@ module _ (c : Call) (good : GoodBoard c) (clean : Clear c (shapeOf c)) where
 
 -- ---- which answers are which
 
-fault-number : (f : Fault) → (1 ≤ faultNumber f) × (faultNumber f ≤ 4)
+pub fault-number : (f : Fault) → (1 ≤ faultNumber f) × (faultNumber f ≤ 4)
 fault-number BadShape = omega arith
 fault-number BadLength = omega arith
 fault-number (TooLarge i) = omega arith
@@ -160,7 +160,7 @@ unfolding concluded
 plan-made c pl e = go (way c)
   where
     go : Way c → PlanMade c pl
-    go (faulty f w) = absurd (apart c _ _ w e (λ n. omega (arith, fault-number f)))
+    go (faulty f given w) = absurd (apart c _ _ w e (λ n. omega (arith, fault-number f)))
     go (refused good r l w) = absurd (apart c _ _ w e (λ n. omega (arith, later-number l)))
     go (ran good clean (found ms left) run w) =
         let same = same-answer c _ _ w e in
@@ -176,7 +176,7 @@ unfolding concluded
 untouched-is c low high = go (way c)
   where
     go : Way c → (answered c .moves ≡ c .moves) × (answered c .table ≡ c .table)
-    go (faulty f w) = (ap (λ (l : Left). l .moves) w, ap (λ (l : Left). l .table) w)
+    go (faulty f given w) = (ap (λ (l : Left). l .moves) w, ap (λ (l : Left). l .table) w)
     go (refused good r l w) = (ap (λ (l′ : Left). l′ .moves) w, ap (λ (l′ : Left). l′ .table) w)
     go (ran good clean (found ms left) run w) = absurd (omega (arith, number-is c _ w))
     go (ran good clean (value v left) run w) = absurd (omega (arith, number-is c _ w))
@@ -187,7 +187,7 @@ unfolding concluded
 late-is c late = go (way c)
   where
     go : Way c → (answered c .moves ≡ c .moves) × (answered c .table ≡ cleared c)
-    go (faulty f w) = absurd (omega (arith, number-is c _ w, fault-number f))
+    go (faulty f given w) = absurd (omega (arith, number-is c _ w, fault-number f))
     go (refused good r l w) = absurd (omega (arith, number-is c _ w, later-number l))
     go (ran good clean (found ms left) run w) = absurd (omega (arith, number-is c _ w))
     go (ran good clean (value v left) run w) = (ap (λ (l : Left). l .moves) w, ap (λ (l : Left). l .table) w)
@@ -211,7 +211,7 @@ ceiling-below-zero c n below = go (way c)
     of-later (parity e f) = absurd (not-clear e)
 
     go : Way c → (1 ≤ number (answered c .answer)) × (number (answered c .answer) ≤ 5)
-    go (faulty f w) = omega (arith, number-is c _ w, fault-number f)
+    go (faulty f given w) = omega (arith, number-is c _ w, fault-number f)
     go (refused good r l w) = omega (arith, number-is c _ w, of-later l)
     go (ran good clean o run w) = absurd (not-clear (clean .ceiling))
 
@@ -230,7 +230,7 @@ visits-counted c = go (way c)
     of-later (parity e f) = refl
 
     go : Way c → visits (answered c .answer) ≤ c .budget
-    go (faulty f w) = omega (arith, visits-are _ w)
+    go (faulty f given w) = omega (arith, visits-are _ w)
     go (refused good r l w) = omega (arith, visits-are _ w, of-later l)
     go (ran good clean (found ms left) run w) = omega (arith, visits-are _ w)
     go (ran good clean (value v left) run w) = omega (arith, visits-are _ w)
@@ -241,7 +241,7 @@ unfolding concluded searched
 no-plan-means c v e = go (way c)
   where
     go : Way c → (1 ≤ v) × ((ds : List ℕ) → Solves (shapeOf c) (c .board) ds → ceilingOf (c .ceiling) < length ds)
-    go (faulty f w) = absurd (apart c _ _ w e (λ n. omega (arith, fault-number f)))
+    go (faulty f given w) = absurd (apart c _ _ w e (λ n. omega (arith, fault-number f)))
     go (refused good r l w) = absurd (apart c _ _ w e (λ n. omega (arith, later-number l)))
     go (ran good clean (found ms left) run w) = absurd (apart c _ _ w e (λ n. omega arith))
     go (ran good clean (value x left) run w) =
@@ -255,7 +255,7 @@ unfolding concluded
 out-of-visits-means c v e = go (way c)
   where
     go : Way c → v ≡ c .budget
-    go (faulty f w) = absurd (apart c _ _ w e (λ n. omega (arith, fault-number f)))
+    go (faulty f given w) = absurd (apart c _ _ w e (λ n. omega (arith, fault-number f)))
     go (refused good r l w) = absurd (apart c _ _ w e (λ n. omega (arith, later-number l)))
     go (ran good clean (found ms left) run w) = absurd (apart c _ _ w e (λ n. omega arith))
     go (ran good clean (value x left) run w) = absurd (apart c _ _ w e (λ n. omega arith))
@@ -275,7 +275,7 @@ odd-board-means c e ds v = go (way c)
     of-later good (parity h odd) n = odd-never-solved (shapeOf c) (c .board) (good .shape) (good .board) odd ds v
 
     go : Way c → ⊥
-    go (faulty f w) = apart c _ _ w e (λ n. omega (arith, fault-number f))
+    go (faulty f given w) = apart c _ _ w e (λ n. omega (arith, fault-number f))
     go (refused good r l w) = of-later good l (sym (number-is c _ w) ∙ ap number e)
     go (ran good clean (found ms left) run w) = apart c _ _ w e (λ n. omega arith)
     go (ran good clean (value x left) run w) = apart c _ _ w e (λ n. omega arith)

@@ -17,6 +17,7 @@ pub mod Theory
 -- the whole answer: the ways that it comes about, and the promises kept
 pub mod Ways
 pub mod Kept
+pub mod Small
 -- for the code's proofs: the space that is meant, the rows in the table, the answers, `work` and `visit`, and the call
 pub mod BoardSpace
 pub mod TableRows

@@ -19,17 +19,13 @@ use Rattle.board.specs.Shape.{GoodShape}
 use Rattle.board.specs.Board.{IsBoard}
 use Rattle.board.specs.Faults.{tested}
 use Rattle.board.specs.Parity.{isOdd}
-use Rattle.board.proofs.Laws.{sound-means}
+use Rattle.board.proofs.Laws.{neither, sound-means}
 use Rattle.planner.specs.declared.Refusal.{Refusal}
 use Rattle.planner.specs.declared.Refusal.the-variants.{Board, BadCeiling, BadBudget, BadWeight, ShortBuffer, OddBoard, NoPlan, OutOfVisits}
 use Rattle.planner.specs.Search.{Outcome}
 use Rattle.planner.specs.Answer.{Call, shapeOf, badCeiling, ceilingOf, badBudget, badWeight, rowsFor, shortBuffer, laterRefusal, searched, untouched, concluded, afterTests, ofTested, answered}
 
 -- ---- what a test tells where it fails
-
-pub neither : (a b : Bool) → a || b ≡ false → (a ≡ false) × (b ≡ false)
-neither true b e = absurd (true≢false e)
-neither false b e = (refl, e)
 
 pub ceiling-passes : (z : ℤ) → badCeiling z ≡ false → ceilingOf z ≤ 120
 unfolding badCeiling ceilingOf
@@ -130,7 +126,7 @@ pub record GoodBoard (c : Call) : Type 0 where
   pub board : IsBoard (shapeOf c) (c .board)
 
 pub data Way (c : Call) : Type 0 where
-  faulty : (f : Fault) → answered c ≡ untouched c (Board f) → Way c
+  faulty : (f : Fault) → tested (c .width) (c .height) (c .board) ≡ Faulty f → answered c ≡ untouched c (Board f) → Way c
   refused : GoodBoard c → (r : Refusal) → Later (badCeiling (c .ceiling)) (isOdd (shapeOf c) (c .board)) r → answered c ≡ untouched c r → Way c
   ran : GoodBoard c → Clear c (shapeOf c) → (o : Outcome) → searched c (shapeOf c) ≡ o → answered c ≡ concluded c o → Way c
 
@@ -151,7 +147,7 @@ way c = of-tested (tested (c .width) (c .height) (c .board)) refl
         (ap (ofTested c) e ∙ ap (afterTests c (shapeOf c)) holds)
 
     of-tested : (t : Tested) → given ≡ t → Way c
-    of-tested (Faulty f) e = faulty f (ap (ofTested c) e)
+    of-tested (Faulty f) e = faulty f e (ap (ofTested c) e)
     of-tested (Sound s) e =
         let means = sound-means (c .width) (c .height) (c .board) s e in
         of-later
