@@ -16,5 +16,4 @@ pub mod Faultless
 -- for the code's proofs: sides, loops, tables
 pub mod Sides
 pub mod FirstLoop
-pub mod Below
 pub mod Entries

@@ -1,22 +1,19 @@
 -- What the statements of the public functions settle: any two results that one of them allows are equal.
 --     one-position      `held::hold` and `moves::after` make the same position of the same board
 --     one-table         `distance::distances`
---     one-list          `distance::four_wide_cells`
+--     one-near-table    `distance::near_table`
 -- Every other public function's statement is an equation `r ≡ ..`, which allows one result by itself. Assumes nothing.
 use Prim.Native.Nat.{ℕ, _+_, _*_, _/_, _%_, _<_}
-use mathlib.Core.Path.{_≡_, refl, sym, ap, ap₂, _∙_}
+use mathlib.Core.Path.{_≡_, sym, ap, ap₂, _∙_}
 use mathlib.Core.List.{List, _++_}
-use mathlib.Core.Bool.{Bool, true, false}
 use native.Mathlib.Omega.{arith}
-use lib.Dec.{ltb}
-use borrow.Author.Tests.{ltb-true, ltb-false}
 use lib.ListN.{length, getD, take, drop, take-append-drop}
 use lib.Seq.{ext-getD}
 use Rattle.board.specs.declared.Shape.{Shape}
 use Rattle.board.specs.declared.Position.{Position}
 use Rattle.board.specs.Shape.{cells}
 use Rattle.board.specs.Board.{emptyCell}
-use Rattle.board.specs.Distance.{DistanceTable, FourWideCells}
+use Rattle.board.specs.Distance.{DistanceTable, NearTable}
 use Rattle.board.specs.Held.{held, Taken}
 
 position-is : (p q : Position) → p .cells ≡ q .cells → p .empty ≡ q .empty → p ≡ q
@@ -45,9 +42,6 @@ one-table t u p q = ext-getD 0 t u (p .long ∙ sym (q .long)) entries
         ∙ sym (q .entry (i / 16) (i % 16) (omega (arith, p .long)) (omega arith))
         ∙ ap (λ (k : ℕ). getD u k 0) (sym at)
 
-pub one-list : (s : Shape) (l m : List ℕ) → FourWideCells s l → FourWideCells s m → l ≡ m
-one-list s l m p q = ext-getD 0 l m (p .long ∙ sym (q .long)) (λ i below. entry i (ltb i (cells s)) refl)
-  where
-    entry : (i : ℕ) (t : Bool) → ltb i (cells s) ≡ t → getD l i 0 ≡ getD m i 0
-    entry i true e = p .entry i (ltb-true _ _ e) ∙ sym (q .entry i (ltb-true _ _ e))
-    entry i false e = p .rest i (ltb-false _ _ e) ∙ sym (q .rest i (ltb-false _ _ e))
+pub one-near-table : (s : Shape) (l m : List ℕ) → NearTable s l → NearTable s m → l ≡ m
+one-near-table s l m p q =
+    ext-getD 0 l m (p .long ∙ sym (q .long)) (λ k below. p .entry k (omega (arith, p .long)) ∙ sym (q .entry k (omega (arith, p .long))))

@@ -1,8 +1,11 @@
 -- The distance of a board: rows plus columns from each tray to its goal cell, over the trays and not the empty cell.
--- Then the table that the cells are looked up in: the 256 distances between pairs of cells of a grid four wide. Assumes nothing.
-use Prim.Native.Nat.{ℕ, zero, suc, _+_, _-_, _*_, _/_, _%_, _≤_, _<_}
+-- Then the table that the cells are looked up in: the 256 distances between pairs of cells of a grid four wide; a smaller cabinet uses the
+-- cells with the same row and column. Assumes nothing.
+use Prim.Native.Nat.{ℕ, zero, suc, _+_, _-_, _*_, _/_, _%_, _<_}
 use mathlib.Core.Path.{_≡_}
+use mathlib.Core.Bool.{cond, _&&_}
 use mathlib.Core.List.{List, [], _∷_}
+use lib.Dec.{ltb}
 use lib.ListN.{length, getD}
 use Rattle.board.specs.declared.Shape.{Shape}
 use Rattle.board.specs.Shape.{cells, row, column}
@@ -41,17 +44,10 @@ pub record DistanceTable (table : List ℕ) : Type 0 where
   pub long : length table ≡ 256
   pub entry : (a c : ℕ) → a < 16 → c < 16 → getD table (16 * a + c) 0 ≡ betweenFour a c
 
-pub record AllBelow (k : ℕ) (l : List ℕ) : Type 0 where
-  pub each : (i : ℕ) → getD l i 0 < k
+-- a shape's own table, made from that one: entry 16i + v is what the tray v in cell i adds, and 0 where there is no such cell or tray
+unfoldable pub nearAt : Shape → ℕ → ℕ
+nearAt s k = cond (ltb (k / 16) (cells s) && ltb (k % 16) (cells s)) (trayDistance s (k / 16) (k % 16)) 0
 
--- for each cell of a smaller cabinet, the cell of a grid four wide with its row and column; 0 past the cabinet's cells
-pub record FourWideCells (s : Shape) (cellsOf : List ℕ) : Type 0 where
-  pub long : length cellsOf ≡ 16
-  pub entry : (i : ℕ) → i < cells s → getD cellsOf i 0 ≡ fourWide s i
-  pub rest : (i : ℕ) → cells s ≤ i → getD cellsOf i 0 ≡ 0
-  pub below : AllBelow 16 cellsOf
-
--- what the tables give for the tray v in cell i
-unfoldable pub lookedUp : List ℕ → List ℕ → ℕ → ℕ → ℕ
-lookedUp table cellsOf i zero = 0
-lookedUp table cellsOf i (suc v) = getD table (16 * getD cellsOf i 0 + getD cellsOf (suc v) 0) 0
+pub record NearTable (s : Shape) (near : List ℕ) : Type 0 where
+  pub long : length near ≡ 256
+  pub entry : (k : ℕ) → k < 256 → getD near k 0 ≡ nearAt s k

@@ -5,8 +5,7 @@ use board::Position;
 use board::Shape;
 use board::Tested;
 use board::distance::distance;
-use board::distance::distances;
-use board::distance::four_wide_cells;
+use board::distance::near_table;
 use board::faults::cell;
 use board::faults::number;
 use board::faults::tested;
@@ -43,9 +42,8 @@ fn show_sound(shape: Shape, cells: &[u8])
     requires { ⌜ IsBoard shape (now cells) ⌝ }
 {
     let p = hold(shape, cells);
-    let table = distances();
-    let four_wide = four_wide_cells(shape);
-    print_field(distance(shape, p, &table, &four_wide));
+    let near = near_table(shape);
+    print_field(distance(shape, p, &near));
     print_yes(is_goal(shape, p));
     print_yes(is_odd(shape, p));
     show_moves(shape, p);

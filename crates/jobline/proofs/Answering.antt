@@ -41,6 +41,7 @@ refusal-line a why n c v moves old new r e en ec ev line =
   where
     of : (x : Answer) → x ≡ Refused why → refusedLine (number x) (cell x) (visits x) ≡ lineOf x moves
     of x same′ = subst (λ (y : Answer). refusedLine (number y) (cell y) (visits y) ≡ lineOf y moves) (sym same′) refl
+
     same : refusedLine n c v ≡ lineOf a moves
     same =
         ap (λ (k : ℕ). refusedLine k c v) en
@@ -66,6 +67,7 @@ job-line job cells y a moves table old new r same settled line =
   where
     given : ℤ → Call
     given z = called (job .width) (job .height) (take (job .count) cells) z (job .budget) (job .p) (job .q) (replicate 120 0) (replicate 484 0)
+
     both : lineOf a moves ≡ leftLine (answered (given y))
     both = ap (λ (x : Answer). lineOf x moves) (settled .answer) ∙ ap (lineOf (answered (given y) .answer)) (settled .moves)
 
@@ -93,9 +95,10 @@ of-text text old new answer j a e long = go (readJob text) refl
         let spells = read-exactly text job .0 is in
         let front : take (length (job .cells)) new ≡ job .cells = ap (take (length (job .cells))) (a .cells ∙ ap (λ (o : Option Job). cellsOf o old) is) ∙ cells-in-front text job old spells long in
         subst (λ (k : JobNumbers). JobOfText text k new) same
-        (record
-        { is = is ∙ ap (λ (cs : List ℕ). some (record { width = job .width; height = job .height; ceiling = job .ceiling; budget = job .budget; p = job .p; q = job .q; cells = cs })) (sym front)
-        ; few = spells .count })
+        (record {
+          is = is ∙ ap (λ (cs : List ℕ). some (record { width = job .width; height = job .height; ceiling = job .ceiling; budget = job .budget; p = job .p; q = job .q; cells = cs })) (sym front);
+          few = spells .count;
+        })
 
 pub job-count : (text old new : List ℕ) (answer : Reading) (j : JobNumbers) → Answers (readJob text) old answer new → answer ≡ JobRead j → length old ≡ 32 → j .count ≤ length new
 job-count text old new answer j a e long =

@@ -60,6 +60,11 @@ fn write_answer(answer: Answer, moves: &[u8], out: &mut [u8]) -> usize
             let length = plan.length;
             write_plan(plan.visits, &moves[..length], out)
         }
-        Answer::Refused(_) => write_refusal(number(answer), cell(answer) as u32, visits(answer), out),
+        Answer::Refused(_) => write_refusal(
+            number(answer),
+            cell(answer) as u32,
+            visits(answer),
+            out,
+        ),
     }
 }

@@ -32,13 +32,17 @@ answer-small c = go (way c)
   where
     of : (l : Left) → answered c ≡ l → SmallAnswer (l .answer) → SmallAnswer (answered c .answer)
     of l e small = subst (λ (x : Left). SmallAnswer (x .answer)) (sym e) small
+
     go : Way c → SmallAnswer (answered c .answer)
     go (faulty f given w) = of _ w (omega (arith, fault-number f, fault-cell-inside (c .width) (c .height) (c .board) f given))
     go (refused good r l w) = of _ w (later-small l)
     go (ran good clean (found ms left) run w) =
         of _ w
-        (omega
-        (arith, found-within c good clean ms left run, ceiling-passes (c .ceiling) (clean .ceiling),
-        budget-passes (c .budget) (clean .budget) .1))
+        (omega (
+          arith,
+          found-within c good clean ms left run,
+          ceiling-passes (c .ceiling) (clean .ceiling),
+          budget-passes (c .budget) (clean .budget) .1,
+        ))
     go (ran good clean (value v left) run w) = of _ w (omega (arith, budget-passes (c .budget) (clean .budget) .1))
     go (ran good clean spent run w) = of _ w (omega (arith, budget-passes (c .budget) (clean .budget) .1))

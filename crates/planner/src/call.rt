@@ -12,8 +12,7 @@ use crate::search::visit;
 use board::Position;
 use board::Shape;
 use board::Tested;
-use board::distance::distances;
-use board::distance::four_wide_cells;
+use board::distance::near_table;
 use board::faults::tested;
 use board::held::hold;
 use board::parity::is_odd;
@@ -200,20 +199,7 @@ fn searched(job: Job, start: Position, budget: u32, moves: &mut [u8], table: &mu
     requires { ⌜ Room job (now table) (now moves) ⌝ }
     ensures { λ r. ⌜ Ended (ofJob job (held (job .shape) start) budget) (now (moves .entry)) r (now (moves .exit)) ⌝ }
 {
-    let distances = distances();
-    let four_wide = four_wide_cells(job.shape);
-    let f = static_value(job, start, 0, &distances, &four_wide);
-    visit(
-        job,
-        start,
-        4,
-        0,
-        f,
-        INFINITY,
-        budget,
-        &distances,
-        &four_wide,
-        table,
-        moves,
-    )
+    let near = near_table(job.shape);
+    let f = static_value(job, start, 0, &near);
+    visit(job, start, 4, 0, f, INFINITY, budget, &near, table, moves)
 }

@@ -22,7 +22,7 @@ ghost use mathlib.Core.Path.{_≡_};
 ghost use Prim.Native.Nat.{_+_, _*_, _-_, _≤_, _<_};
 ghost use lib.ListN.{length};
 ghost use Rattle.board.specs.Held.{held, Holds};
-ghost use Rattle.board.specs.Distance.{DistanceTable, FourWideCells};
+ghost use Rattle.board.specs.Distance.{NearTable};
 ghost use Rattle.planner.specs.Row.{best, second};
 ghost use Rattle.planner.specs.Space.{boards};
 ghost use Rattle.planner.specs.Search.{static, firstEntry, firstRow};
@@ -37,15 +37,14 @@ pub fn visit(
     stored: u16,
     bound: u16,
     left: u32,
-    distances: &[u8; 256],
-    four_wide: &[u8; 16],
+    near: &[u8; 256],
     table: &mut [u16],
     moves: &mut [u8],
 ) -> Out
     requires { ⌜ SmallJob job ⌝ }
     requires { ⌜ Holds (job .shape) p ⌝ }
     requires { ⌜ (last ≤ 4) × (g ≤ job .ceiling) ⌝ }
-    requires { ⌜ (DistanceTable (now distances)) × (FourWideCells (job .shape) (now «four_wide»)) ⌝ }
+    requires { ⌜ NearTable (job .shape) (now near) ⌝ }
     requires { ⌜ Room job (now table) (now moves) ⌝ }
     ensures { λ r. ⌜ Ran g (visited job (held (job .shape) p) last g stored bound left)
         (now (table .entry)) (now (moves .entry)) r (now (table .exit)) (now (moves .exit)) ⌝ }
@@ -59,18 +58,8 @@ pub fn visit(
     if g == job.ceiling {
         return Out::Value(INFINITY, left - 1);
     }
-    first_row(job, p, last, g, stored, distances, four_wide, table);
-    work(
-        job,
-        p,
-        g,
-        bound,
-        left - 1,
-        distances,
-        four_wide,
-        table,
-        moves,
-    )
+    first_row(job, p, last, g, stored, near, table);
+    work(job, p, g, bound, left - 1, near, table, moves)
 }
 
 // The work through the successors of the position at depth g, whose stored values are in the table.
@@ -80,15 +69,14 @@ fn work(
     g: usize,
     bound: u16,
     left: u32,
-    distances: &[u8; 256],
-    four_wide: &[u8; 16],
+    near: &[u8; 256],
     table: &mut [u16],
     moves: &mut [u8],
 ) -> Out
     requires { ⌜ SmallJob job ⌝ }
     requires { ⌜ Holds (job .shape) p ⌝ }
     requires { ⌜ g < job .ceiling ⌝ }
-    requires { ⌜ (DistanceTable (now distances)) × (FourWideCells (job .shape) (now «four_wide»)) ⌝ }
+    requires { ⌜ NearTable (job .shape) (now near) ⌝ }
     requires { ⌜ Room job (now table) (now moves) ⌝ }
     requires { ⌜ Open job (held (job .shape) p) (rowAt (now table) g) ⌝ }
     ensures { λ r. ⌜ Ran g (worked job (held (job .shape) p) g bound (rowAt (now (table .entry)) g) left)
@@ -104,19 +92,7 @@ fn work(
         }
         let down = lesser(bound, row_second(table, g, m));
         let next = after(job.shape, p, m);
-        match visit(
-            job,
-            next,
-            m,
-            g + 1,
-            least,
-            down,
-            left,
-            distances,
-            four_wide,
-            table,
-            moves,
-        ) {
+        match visit(job, next, m, g + 1, least, down, left, near, table, moves) {
             Out::Found(length, rest) => {
                 moves[g] = m as u8;
                 return Out::Found(length, rest);
@@ -162,24 +138,23 @@ fn first_row(
     last: usize,
     g: usize,
     stored: u16,
-    distances: &[u8; 256],
-    four_wide: &[u8; 16],
+    near: &[u8; 256],
     table: &mut [u16],
 )
     requires { ⌜ SmallJob job ⌝ }
     requires { ⌜ Holds (job .shape) p ⌝ }
     requires { ⌜ (last ≤ 4) × (g < job .ceiling) ⌝ }
-    requires { ⌜ (DistanceTable (now distances)) × (FourWideCells (job .shape) (now «four_wide»)) ⌝ }
+    requires { ⌜ NearTable (job .shape) (now near) ⌝ }
     requires { ⌜ 4 * (g + 1) ≤ length (now table) ⌝ }
     ensures { λ _. ⌜ now (table .exit) ≡ putRow (now (table .entry)) g
         (firstRow (boards (job .shape)) (static (boards (job .shape)) (job .weight)) g (held (job .shape) p) last stored) ⌝ }
 {
-    let f = static_value(job, p, g, distances, four_wide);
+    let f = static_value(job, p, g, near);
     let at = 4 * g;
-    table[at] = first_entry(job, p, last, g, f, stored, 0, distances, four_wide);
-    table[at + 1] = first_entry(job, p, last, g, f, stored, 1, distances, four_wide);
-    table[at + 2] = first_entry(job, p, last, g, f, stored, 2, distances, four_wide);
-    table[at + 3] = first_entry(job, p, last, g, f, stored, 3, distances, four_wide);
+    table[at] = first_entry(job, p, last, g, f, stored, 0, near);
+    table[at + 1] = first_entry(job, p, last, g, f, stored, 1, near);
+    table[at + 2] = first_entry(job, p, last, g, f, stored, 2, near);
+    table[at + 3] = first_entry(job, p, last, g, f, stored, 3, near);
 }
 
 // The first stored value of a move: infinity where it makes no successor.
@@ -191,14 +166,13 @@ fn first_entry(
     f: u16,
     stored: u16,
     m: usize,
-    distances: &[u8; 256],
-    four_wide: &[u8; 16],
+    near: &[u8; 256],
 ) -> u16
     requires { ⌜ SmallJob job ⌝ }
     requires { ⌜ Holds (job .shape) p ⌝ }
     requires { ⌜ (last ≤ 4) × ((g < job .ceiling) × (m < 4)) ⌝ }
     requires { ⌜ f ≡ static (boards (job .shape)) (job .weight) g (held (job .shape) p) ⌝ }
-    requires { ⌜ (DistanceTable (now distances)) × (FourWideCells (job .shape) (now «four_wide»)) ⌝ }
+    requires { ⌜ NearTable (job .shape) (now near) ⌝ }
     ensures { λ r. ⌜ r ≡ firstEntry (boards (job .shape)) (static (boards (job .shape)) (job .weight)) g (held (job .shape) p) last stored m ⌝ }
 {
     if takes_back(last, m) {
@@ -206,29 +180,19 @@ fn first_entry(
     }
     if legal(job.shape, p, m) {
         let next = after(job.shape, p, m);
-        return first_stored(
-            f,
-            stored,
-            static_value(job, next, g + 1, distances, four_wide),
-        );
+        return first_stored(f, stored, static_value(job, next, g + 1, near));
     }
     INFINITY
 }
 
 // f = q × g + p × h.
-pub fn static_value(
-    job: Job,
-    p: Position,
-    g: usize,
-    distances: &[u8; 256],
-    four_wide: &[u8; 16],
-) -> u16
+pub fn static_value(job: Job, p: Position, g: usize, near: &[u8; 256]) -> u16
     requires { ⌜ SmallJob job ⌝ }
     requires { ⌜ Holds (job .shape) p ⌝ }
     requires { ⌜ g ≤ job .ceiling ⌝ }
-    requires { ⌜ (DistanceTable (now distances)) × (FourWideCells (job .shape) (now «four_wide»)) ⌝ }
+    requires { ⌜ NearTable (job .shape) (now near) ⌝ }
     ensures { λ r. ⌜ r ≡ static (boards (job .shape)) (job .weight) g (held (job .shape) p) ⌝ }
 {
-    let h = distance(job.shape, p, distances, four_wide);
+    let h = distance(job.shape, p, near);
     (job.weight.q * g + job.weight.p * h) as u16
 }

@@ -1,11 +1,12 @@
--- `board::distance::distance` meets its contract: the loop sums what the tables give for each cell, which for a board is the tray's
+-- `board::distance::distance` meets its contract: the loop sums what the shape's table gives for each cell, which for a board is the tray's
 -- distance; no sum on the way is above the board's distance, so none wraps. Assumes nothing.
-use Prim.Native.Nat.{ℕ, zero, suc, _+_, _*_, _-_, _≤_, _<_}
+use Prim.Native.Nat.{ℕ, zero, suc, _+_, _*_, _-_, _/_, _%_, _≤_, _<_}
 use mathlib.Core.Path.{_≡_, refl, sym, ap, ap₂, _∙_}
 use mathlib.Core.List.{List, [], _∷_}
 use native.Mathlib.Omega.{arith}
 use native.Mathlib.Nat.{add-zero, zero-add}
 use native.Mathlib.Numerals.{add-one}
+use borrow.Author.Tests.{lt-ltb}
 use lib.ListN.{length, getD, take, drop, drop-of-length-le}
 use lib.Seq.{getD-take, drop-cons}
 use denote.Ref.{now}
@@ -13,10 +14,10 @@ use Rattle.board.specs.declared.Shape.{Shape}
 use Rattle.board.specs.declared.Position.{Position}
 use Rattle.board.specs.Shape.{cells, GoodShape}
 use Rattle.board.specs.Board.{at, IsBoard}
-use Rattle.board.specs.Distance.{trayDistance, distanceFrom, distance, fourWide, DistanceTable, FourWideCells, lookedUp}
+use Rattle.board.specs.Distance.{trayDistance, distanceFrom, distance, nearAt, NearTable}
 use Rattle.board.specs.Held.{held, Holds}
 use Rattle.board.proofs.Sides.{cells-within}
-use Rattle.board.proofs.Distances.{four-wide-inside, between-four, distance-at-most-90}
+use Rattle.board.proofs.Distances.{distance-at-most-90}
 use Rattle.board.proofs.distance.distance.Statement.{statement}
 use Rattle.board.proofs.distance.distance.Tie as tie
 
@@ -37,23 +38,26 @@ as-distance s f i (x ∷ xs) same =
     let up : suc i + k ≡ i + suc k = omega arith in
     ap (λ (j : ℕ). f j (at xs k)) up ∙ same (suc k) (omega arith) ∙ ap (λ (j : ℕ). trayDistance s j (at xs k)) (sym up)))
 
--- what the tables give for a tray is its distance
-looked-up : (s : Shape) (table wide : List ℕ) (i v : ℕ) → GoodShape s → DistanceTable table → FourWideCells s wide → i < cells s → v < cells s → lookedUp table wide i v ≡ trayDistance s i v
-unfolding lookedUp trayDistance
-looked-up s table wide i zero good t w below-i below-v = refl
-looked-up s table wide i (suc v) good t w below-i below-v =
-    ap (λ (a : ℕ). getD table (16 * a + getD wide (suc v) 0) 0) (w .entry i below-i)
-    ∙ ap (λ (c : ℕ). getD table (16 * fourWide s i + c) 0) (w .entry (suc v) below-v)
-    ∙ t .entry (fourWide s i) (fourWide s (suc v)) (four-wide-inside s good i below-i) (four-wide-inside s good (suc v) below-v)
-    ∙ sym (between-four s good i (suc v))
+-- what the shape's table gives for a tray is its distance
+looked-up : (s : Shape) (near : List ℕ) (i v : ℕ) → GoodShape s → NearTable s near → i < cells s → v < cells s → getD near (16 * i + v) 0 ≡ trayDistance s i v
+unfolding nearAt
+looked-up s near i v good table below-i below-v =
+    let few = cells-within good in
+    let cell : (16 * i + v) / 16 ≡ i = omega arith in
+    let value : (16 * i + v) % 16 ≡ v = omega arith in
+    table .entry (16 * i + v) (omega arith)
+    ∙ simp (cell, value, lt-ltb i (cells s) below-i, lt-ltb v (cells s) below-v)
 
-total : (s : Shape) (b table wide : List ℕ) → GoodShape s → IsBoard s b → DistanceTable table → FourWideCells s wide → sumFrom (lookedUp table wide) 0 b ≡ distance s b
+abbrev lookedUp : List ℕ → ℕ → ℕ → ℕ
+lookedUp near i v = getD near (16 * i + v) 0
+
+total : (s : Shape) (b near : List ℕ) → GoodShape s → IsBoard s b → NearTable s near → sumFrom (lookedUp near) 0 b ≡ distance s b
 unfolding distance
-total s b table wide good board t w =
-    as-distance s (lookedUp table wide) 0 b
+total s b near good board table =
+    as-distance s (lookedUp near) 0 b
     (λ k below.
     let inside : 0 + k < cells s = omega (arith, board .long) in
-    looked-up s table wide (0 + k) (at b k) good t w inside (board .small k (omega (arith, board .long))))
+    looked-up s near (0 + k) (at b k) good table inside (board .small k (omega (arith, board .long))))
 
 -- the cells below i have been summed
 record Summed (f : ℕ → ℕ → ℕ) (b : List ℕ) (n sum i : ℕ) : Type 0 where
@@ -86,16 +90,20 @@ count-of : (s : Shape) (p : Position) (n : ℕ) → Holds s p → n ≡ cells s 
 count-of s p n holds e = e ∙ sym (holds .board .long) ∙ ap (λ (k : ℕ). length (take k (p .cells))) (sym e)
 
 -- the sum over the position's cells is the board's distance
-sum-is : (s : Shape) (p : Position) (n : ℕ) (table wide : List ℕ) → Holds s p → DistanceTable table → FourWideCells s wide → n ≡ cells s → sumFrom (lookedUp table wide) 0 (take n (p .cells)) ≡ distance s (held s p)
-sum-is s p n table wide holds t w e =
-    ap (λ (k : ℕ). sumFrom (lookedUp table wide) 0 (take k (p .cells))) e
-    ∙ total s (held s p) table wide (holds .shape) (holds .board) t w
+sum-is : (s : Shape) (p : Position) (n : ℕ) (near : List ℕ) → Holds s p → NearTable s near → n ≡ cells s → sumFrom (lookedUp near) 0 (take n (p .cells)) ≡ distance s (held s p)
+sum-is s p n near holds table e =
+    ap (λ (k : ℕ). sumFrom (lookedUp near) 0 (take k (p .cells))) e ∙ total s (held s p) near (holds .shape) (holds .board) table
+
+-- a number of the board is below 16
+small-value : (s : Shape) (p : Position) (i v : ℕ) → Holds s p → i < cells s → v ≡ at (p .cells) i → v < 16
+small-value s p i v holds below is =
+    omega (arith, cells-within (holds .shape), holds .board .small i below, getD-take (cells s) (p .cells) i 0 below)
 
 abbrev Inv-loop : tie.InvT-loop
-Inv-loop p table four-wide n sum₀ i₀ sum i = Summed (lookedUp table four-wide) (take n (p .cells)) n sum i
+Inv-loop p near n sum₀ i₀ sum i = Summed (lookedUp near) (take n (p .cells)) n sum i
 
 abbrev μ-loop : tie.MeasureT-loop
-μ-loop p table four-wide n sum₀ i₀ sum i = n - i
+μ-loop p near n sum₀ i₀ sum i = n - i
 
 cell-count-requires : tie.Need-cell-count-requires Inv-loop μ-loop
 cell-count-requires c κs = c .pre .0 .shape
@@ -103,57 +111,59 @@ cell-count-requires c κs = c .pre .0 .shape
 loop-holds : tie.Need-loop-holds Inv-loop μ-loop
 loop-holds c = record { within = omega arith; whole = zero-add _ }
 
+mul-number-of : tie.Need-mul-number-of Inv-loop μ-loop
+mul-number-of c = omega (arith, cells-within (c .before .before .before .pre .0 .shape))
+
 number-at-requires : tie.Need-number-at-requires Inv-loop μ-loop
 number-at-requires c κs = omega (arith, cells-within (c .before .before .before .pre .0 .shape))
 
-tray-distance-requires : tie.Need-tray-distance-requires Inv-loop μ-loop
-tray-distance-requires c κs =
-    let start = c .before .before .before .before in
-    let h = start .pre .0 in
-    let i = c .before .before .loop .i in
-    let below : i < cells (start .args .shape) = omega arith in
-    let v : at (held (start .args .shape) (start .args .p)) i < cells (start .args .shape) = h .board .small i below in (
-      omega (arith, cells-within (h .shape)),
-      (
-        omega (arith, cells-within (h .shape), getD-take (cells (start .args .shape)) (start .args .p .cells) i 0 below),
-        start .pre .1 .1 .below,
-      ),
-    )
+add-number-of : tie.Need-add-number-of Inv-loop μ-loop
+add-number-of c =
+    let h = c .before .before .before .before .pre .0 in
+    omega (arith, cells-within (h .shape), small-value _ _ _ _ h (omega arith) (c .number-at .ensures))
+
+element-copy-out-number-of : tie.Need-element-copy-out-number-of Inv-loop μ-loop
+element-copy-out-number-of c =
+    let h = c .before .before .before .before .pre .0 in
+    omega (arith, cells-within (h .shape), small-value _ _ _ _ h (omega arith) (c .number-at .ensures))
+
+number-of-requires : tie.Need-number-of-requires Inv-loop μ-loop
+number-of-requires c κs = tt
 
 add-sum : tie.Need-add-sum Inv-loop μ-loop
 add-sum c =
-    let start = c .before .before .before .before .before in
+    let start = c .before .before .before .before .before .before in
     let h = start .pre .0 in
-    let count = c .before .before .before .before .cell-count .ensures in
-    let at-loop = c .before .before .before in
-    let below = c .before .before .loop-test .taken in
+    let count = c .before .before .before .before .before .cell-count .ensures in
+    let below = c .before .before .before .loop-test .taken in
     omega (
       arith,
-      sum-is _ _ _ _ _ h (start .pre .1 .0) (start .pre .1 .1) count,
-      part _ _ _ _ _ _ (at-loop .loop .inv) below (count-of _ _ _ h count) (cell-of _ (start .args .p .cells) (lookedUp (now (start .args .table)) (now (start .args .four-wide))) _ _ _ below (c .before .number-at .ensures) (c .tray-distance .ensures)),
+      sum-is _ _ _ _ h (start .pre .1) count,
+      part _ _ _ _ _ _ (c .before .before .before .before .loop .inv) below (count-of _ _ _ h count)
+          (cell-of _ (start .args .p .cells) (lookedUp (now (start .args .near))) _ _ _ below (c .before .before .number-at .ensures) (c .number-of .ensures)),
       distance-at-most-90 _ _ (h .shape) (h .board),
     )
 
 add-i : tie.Need-add-i Inv-loop μ-loop
-add-i c = omega (arith, cells-within (c .before .before .before .before .before .pre .0 .shape))
+add-i c = omega (arith, cells-within (c .before .before .before .before .before .before .pre .0 .shape))
 
 loop-less : tie.Need-loop-less Inv-loop μ-loop
 loop-less c = omega arith
 
 loop-again : tie.Need-loop-again Inv-loop μ-loop
 loop-again c =
-    let start = c .before .before .before .before .before in
-    let below = c .before .before .loop-test .taken in
-    one-more _ _ _ _ _ _ (c .before .before .before .loop .inv) below
-    (count-of _ _ _ (start .pre .0) (c .before .before .before .before .cell-count .ensures))
-    (cell-of _ (start .args .p .cells) (lookedUp (now (start .args .table)) (now (start .args .four-wide))) _ _ _ below (c .before .number-at .ensures) (c .tray-distance .ensures))
+    let start = c .before .before .before .before .before .before in
+    let below = c .before .before .before .loop-test .taken in
+    one-more _ _ _ _ _ _ (c .before .before .before .before .loop .inv) below
+    (count-of _ _ _ (start .pre .0) (c .before .before .before .before .before .cell-count .ensures))
+    (cell-of _ (start .args .p .cells) (lookedUp (now (start .args .near))) _ _ _ below (c .before .before .number-at .ensures) (c .number-of .ensures))
 
 returns : tie.Need-returns Inv-loop μ-loop
 returns c =
     let start = c .before .before .before in
     let count = c .before .before .cell-count .ensures in
     all-summed _ _ _ _ _ (c .before .loop .inv) (c .loop-test .left) (count-of _ _ _ (start .pre .0) count)
-    ∙ sum-is _ _ _ _ _ (start .pre .0) (start .pre .1 .0) (start .pre .1 .1) count
+    ∙ sum-is _ _ _ _ (start .pre .0) (start .pre .1) count
 
 pub distance-spec : {M : Type 1} → statement M
 distance-spec =
@@ -163,8 +173,11 @@ distance-spec =
     μ-loop
     cell-count-requires
     loop-holds
+    mul-number-of
     number-at-requires
-    tray-distance-requires
+    add-number-of
+    element-copy-out-number-of
+    number-of-requires
     add-sum
     add-i
     loop-less

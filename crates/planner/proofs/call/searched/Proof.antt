@@ -5,21 +5,16 @@ use Rattle.planner.proofs.Calling.{started}
 use Rattle.planner.proofs.call.searched.Statement.{statement}
 use Rattle.planner.proofs.call.searched.Tie as tie
 
-distances-requires : tie.Need-distances-requires
-distances-requires c κs = search needs
-
-four-wide-cells-requires : tie.Need-four-wide-cells-requires
-four-wide-cells-requires c κs = search needs
+near-table-requires : tie.Need-near-table-requires
+near-table-requires c κs = search needs
 
 static-value-requires : tie.Need-static-value-requires
 static-value-requires c κs = search needs
 
 visit-requires : tie.Need-visit-requires
 visit-requires c κs =
-    let start = c .before .before .before .before .before .before .before .before .before .before .before in (
-      start .pre .0 .0,
-      (start .pre .0 .1, (omega arith, ((c .before .before .before .before .before .before .before .before .distances .ensures, c .before .before .before .before .before .before .before .four-wide-cells .ensures), start .pre .1))),
-    )
+    let start = c .before .before .before .before .before .before .before .before in
+    (start .pre .0 .0, (start .pre .0 .1, (omega arith, (c .before .before .before .before .before .near-table .ensures, start .pre .1))))
 
 same-length : tie.Need-same-length
 same-length c = search needs
@@ -29,14 +24,13 @@ same-length-2 c = search needs
 
 returns : tie.Need-returns
 returns c =
-    started _ _ _ _ _ _ _ _ _ (c .before .before .before .before .before .before .before .before .before .static-value .ensures) (c .before .before .before .before .visit .ensures)
+    started _ _ _ _ _ _ _ _ _ (c .before .before .before .before .before .before .before .before .static-value .ensures) (c .before .before .before .before .visit .ensures)
 
 pub searched-spec : {M : Type 1} → statement M
 searched-spec =
     tie.close
     (tie.spec
-    distances-requires
-    four-wide-cells-requires
+    near-table-requires
     static-value-requires
     visit-requires
     same-length

@@ -36,32 +36,32 @@ use Rattle.planner.proofs.search.+visit+work.Lts-visit as visit-lts
 use Rattle.planner.proofs.search.+visit+work.Lts-work as work-lts
 use Rattle.planner.proofs.search.+visit+work.Tie.{close}
 
-abbrev μ-visit : Measures 4 visit-kinds.ps ℕ
+abbrev μ-visit : Measures 3 visit-kinds.ps ℕ
 μ-visit κs a = 2 * (a .0 .ceiling - a .1 .1 .1 .0) + 1
 
-abbrev μ-work : Measures 4 work-kinds.ps ℕ
+abbrev μ-work : Measures 3 work-kinds.ps ℕ
 μ-work κs a = 2 * (a .0 .ceiling - a .1 .1 .0)
 
 abbrev work-Inv-loop : work-lts.InvT-loop
-work-Inv-loop job p g bound left distances four-wide table₀ moves₀ left₀ table moves left′ =
+work-Inv-loop job p g bound left near table₀ moves₀ left₀ table moves left′ =
     Working job (held (job .shape) p) g bound table₀ moves₀ left table moves left′
 
 abbrev work-μ-loop : work-lts.MeasureT-loop
-work-μ-loop job p g bound left distances four-wide table₀ moves₀ left₀ table moves left′ = left′
+work-μ-loop job p g bound left near table₀ moves₀ left₀ table moves left′ = left′
 
 module _ (t : ℕ) where
   -- what each is given at the measure t, and what a call of it asks below t
-  abbrev visit-at : In 4 visit-kinds.ps
-  visit-at = and 4 visit-kinds.ps (is 4 visit-kinds.ps μ-visit t) visit.Pre
+  abbrev visit-at : In 3 visit-kinds.ps
+  visit-at = and 3 visit-kinds.ps (is 3 visit-kinds.ps μ-visit t) visit.Pre
 
-  abbrev visit-below : In 4 visit-kinds.ps
-  visit-below = and 4 visit-kinds.ps (falls 4 visit-kinds.ps _<_ μ-visit t) visit.Pre
+  abbrev visit-below : In 3 visit-kinds.ps
+  visit-below = and 3 visit-kinds.ps (falls 3 visit-kinds.ps _<_ μ-visit t) visit.Pre
 
-  abbrev work-at : In 4 work-kinds.ps
-  work-at = and 4 work-kinds.ps (is 4 work-kinds.ps μ-work t) work.Pre
+  abbrev work-at : In 3 work-kinds.ps
+  work-at = and 3 work-kinds.ps (is 3 work-kinds.ps μ-work t) work.Pre
 
-  abbrev work-below : In 4 work-kinds.ps
-  work-below = and 4 work-kinds.ps (falls 4 work-kinds.ps _<_ μ-work t) work.Pre
+  abbrev work-below : In 3 work-kinds.ps
+  work-below = and 3 work-kinds.ps (falls 3 work-kinds.ps _<_ μ-work t) work.Pre
 
   -- what is asked and learnt at the calls that each makes
   abbrev visit-claims : visit-lts.Claims
@@ -98,14 +98,14 @@ module _ (t : ℕ) where
   visit-is-goal-requires : visit-lts.Need-is-goal-requires visit-claims visit-at visit.Post
   visit-is-goal-requires c κs = c .before .before .before .pre .1 .0 .shape
 
-  visit-sub-t14 : visit-lts.Need-sub-t14 visit-claims visit-at visit.Post
-  visit-sub-t14 c = omega arith
+  visit-sub-t13 : visit-lts.Need-sub-t13 visit-claims visit-at visit.Post
+  visit-sub-t13 c = omega arith
 
   visit-returns-2 : visit-lts.Need-returns-2 visit-claims visit-at visit.Post
   visit-returns-2 c = at-goal _ _ _ _ _ _ _ _ _ (c .before .before .if1 .left) (sym (c .before .is-goal .ensures) ∙ c .if2 .taken)
 
-  visit-sub-t15 : visit-lts.Need-sub-t15 visit-claims visit-at visit.Post
-  visit-sub-t15 c = omega arith
+  visit-sub-t14 : visit-lts.Need-sub-t14 visit-claims visit-at visit.Post
+  visit-sub-t14 c = omega arith
 
   visit-returns-3 : visit-lts.Need-returns-3 visit-claims visit-at visit.Post
   visit-returns-3 c =
@@ -127,17 +127,17 @@ module _ (t : ℕ) where
       let pre = start .pre .1 in
       let fits = row-fits (pre .1 .1 .1 .1) (pre .1 .1 .0 .1) in
       let isOpen = starts-open (start .args .job) _ _ _ _ _ _ fits (filled .first-row .ensures) (pre .1 .0 .shape) in
-      let room = room-kept (pre .1 .1 .1 .1) (filled .first-row .kept .1 .1 .1 .1 .1 .1 .1 .0) refl in
+      let room = room-kept (pre .1 .1 .1 .1) (filled .first-row .kept .1 .1 .1 .1 .1 .1 .0) refl in
       let deeper = filled .before .before .if3 .left in
       (omega (arith, start .pre .0, deeper), (pre .0, (pre .1 .0, (omega (arith, pre .1 .1 .0 .1, deeper), (pre .1 .1 .1 .0, (room, isOpen))))))
 
   visit-same-length : visit-lts.Need-same-length visit-claims visit-at visit.Post
   visit-same-length c =
       let worked = c .before .before .before .before in
-      worked .work .kept .1 .1 .1 .1 .1 .1 .1 .0 ∙ worked .before .before .before .before .before .first-row .kept .1 .1 .1 .1 .1 .1 .1 .0
+      worked .work .kept .1 .1 .1 .1 .1 .1 .0 ∙ worked .before .before .before .before .before .first-row .kept .1 .1 .1 .1 .1 .1 .0
 
   visit-same-length-2 : visit-lts.Need-same-length-2 visit-claims visit-at visit.Post
-  visit-same-length-2 c = c .before .before .before .before .work .kept .1 .1 .1 .1 .1 .1 .1 .1 .0
+  visit-same-length-2 c = c .before .before .before .before .work .kept .1 .1 .1 .1 .1 .1 .1 .0
 
   visit-returns-4 : visit-lts.Need-returns-4 visit-claims visit-at visit.Post
   visit-returns-4 c =
@@ -177,10 +177,10 @@ module _ (t : ℕ) where
 
   -- the buffers as the visit leaves them
   abbrev table-of : Called → List ℕ
-  table-of c = c .visit .last .1 .1 .1 .1 .1 .1 .1 .1 .1 .0
+  table-of c = c .visit .last .1 .1 .1 .1 .1 .1 .1 .1 .0
 
   abbrev moves-of : Called → List ℕ
-  moves-of c = c .visit .last .1 .1 .1 .1 .1 .1 .1 .1 .1 .1 .0
+  moves-of c = c .visit .last .1 .1 .1 .1 .1 .1 .1 .1 .1 .0
 
   room : (c : Head) → Room (start-of c .args .job) (c .loop .table) (c .loop .moves)
   room c = room-kept (start-of c .pre .1 .1 .1 .1 .1 .0) (c .loop .inv .rows) (ap length (c .loop .inv .path))
@@ -208,15 +208,15 @@ module _ (t : ℕ) where
         ran = called _ _ (choice .row-best .ensures) (start-of (head-of c) .args .job) _ _ _ _ _ _ _
             (c .before .before .before .after .ensures .same) (bounds .before .row-second .ensures) (bounds .lesser .ensures)
             (c .visit .ensures);
-        rows = c .visit .kept .1 .1 .1 .1 .1 .1 .1 .1 .1 .0;
+        rows = c .visit .kept .1 .1 .1 .1 .1 .1 .1 .1 .0;
       }
 
   -- the buffers keep their lengths, so the move's places are in them
   table-long : (c : Called) → length (table-of c) ≡ length (start-of (head-of c) .args .table .now)
-  table-long c = c .visit .kept .1 .1 .1 .1 .1 .1 .1 .1 .1 .0 ∙ head-of c .loop .inv .rows
+  table-long c = c .visit .kept .1 .1 .1 .1 .1 .1 .1 .1 .0 ∙ head-of c .loop .inv .rows
 
   moves-long : (c : Called) → length (moves-of c) ≡ length (start-of (head-of c) .args .moves .now)
-  moves-long c = c .visit .kept .1 .1 .1 .1 .1 .1 .1 .1 .1 .1 .0 ∙ ap length (head-of c .loop .inv .path)
+  moves-long c = c .visit .kept .1 .1 .1 .1 .1 .1 .1 .1 .1 .0 ∙ ap length (head-of c .loop .inv .path)
 
   move-small : (c : Called) → choice-of c .step < 4
   move-small c = chosen-move _ _ (visit-made c .chosen)
@@ -344,9 +344,9 @@ pub +visit+work-spec : {M : Type 1} → statement M
     (λ t. visit-lts.spec (visit-claims t) (visit-at t) visit.Post
     (visit-returns t)
     (visit-is-goal-requires t)
-    (visit-sub-t14 t)
+    (visit-sub-t13 t)
     (visit-returns-2 t)
-    (visit-sub-t15 t)
+    (visit-sub-t14 t)
     (visit-returns-3 t)
     (visit-first-row-requires t)
     (visit-sub-work t)

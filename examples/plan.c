@@ -1,0 +1,92 @@
+/*
+ * Plans some boards and shows the cabinet after each slide, or says why there is no plan.
+ *
+ *   cc -std=c11 -I include examples/plan.c target/staticlib/liblowpengine.a -o plan
+ */
+#include "lowpengine.h"
+#include <stdio.h>
+
+struct job {
+    const char *name;
+    uint32_t width, height;
+    uint8_t board[LOWPENGINE_CELLS];
+    int32_t ceiling;
+    uint32_t budget;
+};
+
+static const struct job jobs[] = {
+    {"a morning's disorder", 3, 3, {1, 4, 2, 3, 7, 5, 6, 8, 0}, 20, 1000},
+    {"the same, in three slides at most", 3, 3, {1, 4, 2, 3, 7, 5, 6, 8, 0}, 3, 1000},
+    {"two trays exchanged", 3, 3, {0, 2, 1, 3, 4, 5, 6, 7, 8}, 20, 1000},
+    {"a tray entered twice", 2, 2, {0, 1, 1, 3}, 20, 1000},
+};
+
+static const char *reason(enum lowpengine_result number) {
+    switch (number) {
+    case LOWPENGINE_PLAN: return "none, there is a plan";
+    case LOWPENGINE_BAD_SHAPE: return "no cabinet has this shape";
+    case LOWPENGINE_BAD_LENGTH: return "too many or too few cells";
+    case LOWPENGINE_BAD_VALUE: return "no such tray";
+    case LOWPENGINE_REPEATED_VALUE: return "this tray stands in an earlier cell";
+    case LOWPENGINE_BAD_CEILING: return "the ceiling is 0 to 120";
+    case LOWPENGINE_BAD_BUDGET: return "the budget is 1 to 1,000,000";
+    case LOWPENGINE_BAD_WEIGHT: return "the weight is 1 to 64 as a fraction of whole numbers";
+    case LOWPENGINE_SHORT_BUFFER: return "a buffer is too short";
+    case LOWPENGINE_UNREACHABLE: return "no slides lead to the goal";
+    case LOWPENGINE_NO_PLAN: return "not within the ceiling";
+    case LOWPENGINE_BUDGET_SPENT: return "the budget ran out";
+    case LOWPENGINE_MALFORMED_TEXT: return "no job line";
+    case LOWPENGINE_BAD_MOVE: return "no such move";
+    case LOWPENGINE_OFF_GRID: return "a move off the grid";
+    }
+    return "an answer of a later version";
+}
+
+static void show(const struct job *job, const uint8_t *board) {
+    for (uint32_t row = 0; row < job->height; row++) {
+        for (uint32_t column = 0; column < job->width; column++) {
+            unsigned tray = board[row * job->width + column];
+            if (tray == 0)
+                printf("  .");
+            else
+                printf(" %2u", tray);
+        }
+        putchar('\n');
+    }
+}
+
+static void plan(const struct job *job) {
+    uint8_t moves[LOWPENGINE_MOVES], table[LOWPENGINE_TABLE_BYTES], board[LOWPENGINE_CELLS];
+    size_t n = (size_t)job->width * job->height;
+    uint64_t answer = lowpengine_plan_short(job->width, job->height, job->board, n, job->ceiling, job->budget, moves,
+                                            sizeof moves, table, sizeof table);
+    enum lowpengine_result number = lowpengine_number(answer);
+
+    printf("%s:\n", job->name);
+    show(job, job->board);
+    if (number == LOWPENGINE_PLAN)
+        printf("%u slides, %u visits made\n", (unsigned)lowpengine_length(answer), (unsigned)lowpengine_visits(answer));
+    else if (number == LOWPENGINE_BAD_VALUE || number == LOWPENGINE_REPEATED_VALUE)
+        printf("refused at cell %u: %s\n", (unsigned)lowpengine_cell(answer), reason(number));
+    else
+        printf("refused, %u visits made: %s\n", (unsigned)lowpengine_visits(answer), reason(number));
+
+    for (uint32_t slide = 1; slide <= lowpengine_length(answer); slide++) {
+        uint64_t played = lowpengine_play(job->width, job->height, job->board, n, moves, slide, board, sizeof board);
+        if (lowpengine_number(played) != LOWPENGINE_PLAYED) {
+            printf("slide %u: %s\n", (unsigned)lowpengine_place(played) + 1, reason(lowpengine_number(played)));
+            return;
+        }
+        printf("%c%s\n", "ULRD"[moves[slide - 1]], lowpengine_is_goal(played) ? ", the goal" : "");
+        show(job, board);
+    }
+}
+
+int main(void) {
+    for (size_t i = 0; i < sizeof jobs / sizeof jobs[0]; i++) {
+        if (i > 0)
+            putchar('\n');
+        plan(&jobs[i]);
+    }
+    return 0;
+}

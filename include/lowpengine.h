@@ -1,0 +1,124 @@
+/*
+ * lowpengine.h: planner and player for sliding tray cabinets of 2 by 2 to 4 by 4 cells.
+ *
+ * Link with liblowpengine.a. All state is in the arguments: any number of threads may call at the same time, each with buffers
+ * of its own. No entry allocates, prints, keeps a pointer or fails to return.
+ *
+ * A cabinet of width x height has n = width * height cells, numbered row by row from the top left. A board is n bytes: byte i
+ * is the tray in cell i, 0 is the empty cell, and each of 0 .. n - 1 stands once. The goal is 0, 1, 2, .. n - 1. A move is one
+ * byte, the way that the empty cell goes (enum lowpengine_move).
+ *
+ * Every slice is a pointer and a length in bytes. The only thing asked of a caller is that these are valid: the length can be
+ * read there (and written, where the pointer is not to const), and a buffer that is written to overlaps no other slice of the
+ * call. A slice of length 0 may have a null pointer. All other arguments are tested; a bad one is refused by its number.
+ */
+#ifndef LOWPENGINE_H
+#define LOWPENGINE_H
+
+#include <stddef.h>
+#include <stdint.h>
+
+#ifdef __cplusplus
+extern "C" {
+#endif
+
+/* Buffers of these sizes serve every call. */
+enum {
+    LOWPENGINE_CELLS = 16,          /* bytes of the largest board */
+    LOWPENGINE_MOVES = 120,         /* bytes of the longest plan, and the highest ceiling */
+    LOWPENGINE_TABLE_NUMBERS = 484, /* numbers of the largest table, 4 * (120 + 1) */
+    LOWPENGINE_TABLE_BYTES = 968    /* the same in bytes, two for each number, low byte first */
+};
+
+/* Where the empty cell goes. */
+enum lowpengine_move { LOWPENGINE_UP = 0, LOWPENGINE_LEFT = 1, LOWPENGINE_RIGHT = 2, LOWPENGINE_DOWN = 3 };
+
+/* What an answer says: 0 for a plan or a list that was played, else why it was refused. */
+enum lowpengine_result {
+    LOWPENGINE_PLAN = 0,            /* a plan was found */
+    LOWPENGINE_PLAYED = 0,          /* every move was played */
+    LOWPENGINE_BAD_SHAPE = 1,       /* width or height is not 2, 3 or 4 */
+    LOWPENGINE_BAD_LENGTH = 2,      /* the board has not n bytes */
+    LOWPENGINE_BAD_VALUE = 3,       /* a byte of the board is n or more; the cell is the first such */
+    LOWPENGINE_REPEATED_VALUE = 4,  /* a byte of the board stands twice; the cell is the first that repeats an earlier one */
+    LOWPENGINE_BAD_CEILING = 5,     /* the ceiling is not 0 to 120 */
+    LOWPENGINE_BAD_BUDGET = 6,      /* the budget is not 1 to 1,000,000 */
+    LOWPENGINE_BAD_WEIGHT = 7,      /* the weight p over q has q = 0, p < q or p > 64 */
+    LOWPENGINE_SHORT_BUFFER = 8,    /* a buffer is too short: moves or table of a plan, out of a play */
+    LOWPENGINE_UNREACHABLE = 9,     /* no list of moves, however long, leads from this board to the goal */
+    LOWPENGINE_NO_PLAN = 10,        /* no list of moves within the ceiling leads to the goal */
+    LOWPENGINE_BUDGET_SPENT = 11,   /* the budget ran out before the search could tell */
+    LOWPENGINE_MALFORMED_TEXT = 12, /* of the job program alone: its input is no job line; no entry answers this */
+    LOWPENGINE_BAD_MOVE = 13,       /* a byte of the move list is above 3; the place is its index */
+    LOWPENGINE_OFF_GRID = 14        /* a move takes the empty cell off the grid; the place is its index */
+};
+
+/*
+ * Plans a list of moves from the board to the goal.
+ *
+ *   ceiling  the most moves that the plan may have, 0 to 120
+ *   budget   the most positions that the search may visit, 1 to 1,000,000; a position visited again counts again
+ *   p, q     the weight p over q, at least 1 over 1 and p at most 64. A plan of L moves has q * L <= p * D for every list of D
+ *            moves to the goal: 1 over 1 gives a shortest plan, a larger weight a longer one in fewer visits as a rule
+ *   moves    receives the plan; at least `ceiling` bytes
+ *   table    working room; at least 4 * (ceiling + 1) numbers of two bytes. An odd last byte is not counted and never touched.
+ *            It need not be aligned
+ *
+ * The arguments are tested in the order of the numbers 1 to 9, and the first that applies is the answer. Then the search runs
+ * and ends in a plan, in 10 or in 11. What stood in moves and table before the call never matters.
+ *
+ *   afterwards         moves                        table
+ *   refused, 1 to 9    as before                    as before
+ *   refused, 10 or 11  as before                    4 * (ceiling + 1) numbers that are 0, then as before
+ *   a plan             its L moves, then as before  4 * (ceiling + 1) numbers that are 0, then as before
+ *
+ * The answer is taken apart by lowpengine_number, _cell, _length and _visits. A field that does not apply is 0: the cell but in
+ * 3 and 4, the length in a refusal, the visits in a refusal but 10 and 11. In 11 they are the budget.
+ */
+uint64_t lowpengine_plan(uint32_t width, uint32_t height, const uint8_t *board, size_t board_len, int32_t ceiling,
+                         uint32_t budget, uint32_t p, uint32_t q, uint8_t *moves, size_t moves_len, uint8_t *table,
+                         size_t table_len);
+
+/* lowpengine_plan with the weight 1 over 1: a plan that it answers is a shortest one. */
+uint64_t lowpengine_plan_short(uint32_t width, uint32_t height, const uint8_t *board, size_t board_len, int32_t ceiling,
+                               uint32_t budget, uint8_t *moves, size_t moves_len, uint8_t *table, size_t table_len);
+
+/*
+ * Plays a list of moves, of any length, on the board.
+ *
+ *   moves    the list; its bytes are not trusted
+ *   out      receives the board that the list ends at; at least n bytes
+ *
+ * Tested in this order: 1 to 4 as above, 8 if out is shorter than n, then the moves one after the other, and the first bad one
+ * is the answer: 13 or 14. When all were played the number is 0, the first n bytes of out are the board reached, and the rest
+ * of out stays. A refusal leaves the whole of out as before. What stood in out never matters.
+ *
+ * The answer is taken apart by lowpengine_number, lowpengine_is_goal, and lowpengine_place for the cell of 3 and 4 and the
+ * index of the bad move of 13 and 14. An index of 2^56 - 1 or more is given as 2^56 - 1; no list in memory is that long.
+ */
+uint64_t lowpengine_play(uint32_t width, uint32_t height, const uint8_t *board, size_t board_len, const uint8_t *moves,
+                         size_t moves_len, uint8_t *out, size_t out_len);
+
+/* Of any answer: LOWPENGINE_PLAN (LOWPENGINE_PLAYED) or the refusal. */
+static inline enum lowpengine_result lowpengine_number(uint64_t answer) { return (enum lowpengine_result)(answer & 0xff); }
+
+/* Of a plan answer: the cell of 3 and 4, else 0. */
+static inline uint32_t lowpengine_cell(uint64_t answer) { return (uint32_t)(answer >> 8 & 0xff); }
+
+/* Of a plan answer: the moves in the plan, 0 for a refusal. */
+static inline uint32_t lowpengine_length(uint64_t answer) { return (uint32_t)(answer >> 16 & 0xffff); }
+
+/* Of a plan answer: the visits made, 0 for 1 to 9. */
+static inline uint32_t lowpengine_visits(uint64_t answer) { return (uint32_t)(answer >> 32); }
+
+/* Of a refused play: the cell of 3 and 4, the index of the bad move of 13 and 14, else 0. */
+static inline uint64_t lowpengine_place(uint64_t answer) { return (answer & 0xff) == 0 ? 0 : answer >> 8; }
+
+/* Of a play: 1 if every move was played and the board reached is the goal, else 0. */
+static inline int lowpengine_is_goal(uint64_t answer) { return answer == 1u << 8; }
+
+#ifdef __cplusplus
+}
+#endif
+
+#endif

@@ -1,0 +1,102 @@
+//! The stored vectors: answers of yet another program. Jobs and plays are put to the second version and to the library, whole
+//! texts to the second version's job reader.
+
+use crate::call::Call;
+use crate::check::Checker;
+use crate::random::Random;
+use second::planner::Answer;
+use second::{entries, job};
+use std::fs;
+use std::path::Path;
+
+/// The lines of a file of vectors: what is put, and what must come.
+fn lines(folder: &Path, file: &str) -> Vec<(String, String)> {
+    let path = folder.join(file);
+    let text = fs::read_to_string(&path).unwrap_or_else(|error| panic!("{}: {error}", path.display()));
+    let split = |line: &str| {
+        let (put, expected) = line.split_once('|').unwrap_or_else(|| panic!("{file}: no '|' in {line}"));
+        (put.to_string(), expected.to_string())
+    };
+    let lines: Vec<_> = text.lines().map(split).collect();
+    assert!(!lines.is_empty(), "{file} is empty");
+    lines
+}
+
+/// The numbers in a text, by their spaces.
+fn numbers<T: std::str::FromStr>(text: &str) -> Vec<T> {
+    text.split_whitespace().map(|word| word.parse().unwrap_or_else(|_| panic!("not a number: {word}"))).collect()
+}
+
+pub fn run(checker: &mut Checker, folder: &Path) {
+    let random = Random::new("vectors", 0);
+    texts(checker, folder);
+    jobs(checker, &random, folder);
+    plays(checker, &random, folder);
+}
+
+fn texts(checker: &mut Checker, folder: &Path) {
+    for (hex, expected) in lines(folder, "texts-base.txt") {
+        let byte = |at| u8::from_str_radix(&hex[at..at + 2], 16).unwrap_or_else(|_| panic!("not hex: {hex}"));
+        let text: Vec<u8> = (0..hex.len()).step_by(2).map(byte).collect();
+        let wrote = job::run(&text);
+        checker.claim("vectors: texts, second version", wrote == expected, || format!("{hex}\n  {wrote}, not {expected}"));
+    }
+}
+
+fn jobs(checker: &mut Checker, random: &Random, folder: &Path) {
+    let (mut calls, mut wanted) = (Vec::new(), Vec::new());
+    for (line, expected) in lines(folder, "jobs-base.txt") {
+        let text = format!("{line}\n");
+        let wrote = job::run(text.as_bytes());
+        checker.claim("vectors: jobs, second version", wrote == expected, || format!("{line}\n  {wrote}, not {expected}"));
+        if let Some(job) = job::read(text.as_bytes()) {
+            calls.push(Call::plan(random, &job.order(), 120, 968));
+            wanted.push(expected);
+        }
+    }
+    for ((answer, call), expected) in checker.ask("vectors: jobs, library and second version", calls).into_iter().zip(wanted)
+    {
+        let wrote = job::line(unpacked(answer), call.part(1));
+        checker.claim("vectors: jobs, library", wrote == expected, || format!("{call}\n  {wrote}, not {expected}"));
+    }
+}
+
+fn plays(checker: &mut Checker, random: &Random, folder: &Path) {
+    let (mut calls, mut wanted) = (Vec::new(), Vec::new());
+    for (line, expected) in lines(folder, "plays-base.txt") {
+        let fields: Vec<&str> = line.split(':').collect();
+        let [sides, cells, moves, out] = fields[..] else { panic!("not a play: {line}") };
+        let (sides, cells, moves) = (numbers::<u32>(sides), numbers::<u8>(cells), numbers::<u8>(moves));
+        let out = numbers::<usize>(out)[0];
+        let mut end = vec![0; out];
+        let answer = entries::play(sides[0], sides[1], &cells, &moves, &mut end);
+        let wrote = play_line(answer, &end[..out.min(cells.len())]);
+        checker.claim("vectors: plays, second version", wrote == expected, || format!("{line}\n  {wrote}, not {expected}"));
+        calls.push(Call::play(random, sides[0], sides[1], &cells, &moves, out));
+        wanted.push(expected);
+    }
+    for ((answer, call), expected) in
+        checker.ask("vectors: plays, library and second version", calls).into_iter().zip(wanted)
+    {
+        let end = call.part(2);
+        let wrote = play_line(answer, &end[..end.len().min(call.part(0).len())]);
+        checker.claim("vectors: plays, library", wrote == expected, || format!("{call}\n  {wrote}, not {expected}"));
+    }
+}
+
+fn unpacked(answer: u64) -> Answer {
+    let visits = (answer >> 32) as u32;
+    match (answer & 0xff) as u8 {
+        0 => Answer::Plan { length: (answer >> 16 & 0xffff) as usize, visits },
+        number => Answer::Refused { number, cell: (answer >> 8 & 0xff) as usize, visits },
+    }
+}
+
+fn play_line(answer: u64, end: &[u8]) -> String {
+    let cells: String = end.iter().map(|value| format!(" {value}")).collect();
+    match answer & 0xff {
+        0 if answer >> 8 == 1 => format!("end yes{cells}"),
+        0 => format!("end no{cells}"),
+        number => format!("refused {number} {}", answer >> 8),
+    }
+}

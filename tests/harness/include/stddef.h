@@ -1,0 +1,8 @@
+/* The part of <stddef.h> that the harness and the example use, for a compiler that comes without headers. */
+#ifndef SHIM_STDDEF_H
+#define SHIM_STDDEF_H
+
+typedef __SIZE_TYPE__ size_t;
+#define NULL ((void *)0)
+
+#endif

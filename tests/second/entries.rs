@@ -1,0 +1,36 @@
+//! The calls as C sees them: a table of bytes, low byte first, and answers packed into 64 bits.
+
+use crate::planner::{self, Answer, Order};
+use crate::player::{self, Played};
+
+/// Plans with a table of bytes. An odd last byte is no part of the table.
+pub fn plan(order: &Order, moves: &mut [u8], table: &mut [u8]) -> u64 {
+    let mut numbers: Vec<u16> = table.chunks_exact(2).map(|pair| u16::from_le_bytes([pair[0], pair[1]])).collect();
+    let answer = planner::plan(order, moves, &mut numbers);
+    for (pair, number) in table.chunks_exact_mut(2).zip(numbers) {
+        pair.copy_from_slice(&number.to_le_bytes());
+    }
+    packed(answer)
+}
+
+/// Plans with the weight of the short call.
+pub fn plan_short(order: &Order, moves: &mut [u8], table: &mut [u8]) -> u64 {
+    plan(&Order { p: 1, q: 1, ..*order }, moves, table)
+}
+
+/// Number, then the cell from bit 8, the length from bit 16 and the visits from bit 32.
+pub fn packed(answer: Answer) -> u64 {
+    match answer {
+        Answer::Plan { length, visits } => (length as u64) << 16 | (visits as u64) << 32,
+        Answer::Refused { number, cell, visits } => number as u64 | (cell as u64) << 8 | (visits as u64) << 32,
+    }
+}
+
+/// Plays; the number, then from bit 8 whether it ends at the goal, or the place of the fault.
+pub fn play(width: u32, height: u32, board: &[u8], moves: &[u8], out: &mut [u8]) -> u64 {
+    const HIGHEST_PLACE: u64 = (1 << 56) - 1;
+    match player::play(width, height, board, moves, out) {
+        Played::End { goal } => (goal as u64) << 8,
+        Played::Refused { number, place } => number as u64 | (place as u64).min(HIGHEST_PLACE) << 8,
+    }
+}

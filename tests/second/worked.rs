@@ -1,0 +1,169 @@
+//! The rows that were worked by hand, the limits named beside them, and some boards that tell common slips apart.
+
+use crate::board::{Board, Fault, Shape, SHAPES};
+use crate::entries;
+use crate::job;
+use crate::planner::{plan, Answer, Order};
+use crate::player::{play, Played};
+
+/// The answer line of a job given as text without its line feed.
+fn answer(line: &str) -> String {
+    job::run(format!("{line}\n").as_bytes())
+}
+
+#[test]
+fn rows_worked_by_hand() {
+    let rows = [
+        ("2 2 0 1 1 1 0 1 2 3", "plan 0 1 -"),
+        ("2 2 1 2 1 1 1 0 2 3", "plan 1 2 L"),
+        ("2 2 1 1 1 1 1 0 2 3", "refused 11 0 1"),
+        ("2 2 0 1 1 1 1 0 2 3", "refused 10 0 1"),
+        ("2 2 6 7 1 1 3 2 1 0", "plan 6 7 ULDRUL"),
+        ("2 2 5 11 1 1 3 2 1 0", "refused 10 0 11"),
+        ("2 2 5 10 1 1 3 2 1 0", "refused 11 0 10"),
+        ("2 2 4 5 1 1 0 3 1 2", "plan 4 5 DRUL"),
+        ("2 2 3 7 1 1 0 3 1 2", "refused 10 0 7"),
+        ("3 2 2 8 1 1 0 2 1 3 5 4", "refused 10 0 8"),
+        ("3 2 2 7 1 1 0 2 1 3 5 4", "refused 11 0 7"),
+        ("2 2 6 9 1 1 0 2 1 3", "refused 9 0 0"),
+        ("2 2 6 9 1 1 0 1 1 4", "refused 3 3 0"),
+        ("2 2 6 9 1 1 0 1 1 3", "refused 4 2 0"),
+    ];
+    for (job, expected) in rows {
+        assert_eq!(answer(job), expected, "{job}");
+    }
+}
+
+#[test]
+fn limits_of_the_numbers() {
+    let rows = [
+        ("2 2 -1 7 1 1 3 2 1 0", "refused 5 0 0"),
+        ("2 2 121 7 1 1 3 2 1 0", "refused 5 0 0"),
+        ("5 2 -1 7 1 1 3 2 1 0", "refused 1 0 0"),
+        ("2 2 6 0 1 1 3 2 1 0", "refused 6 0 0"),
+        ("2 2 6 1000001 1 1 3 2 1 0", "refused 6 0 0"),
+        ("2 2 6 1000000 1 1 3 2 1 0", "plan 6 7 ULDRUL"),
+        ("2 2 6 7 1 2 3 2 1 0", "refused 7 0 0"),
+        ("2 2 6 7 1 0 3 2 1 0", "refused 7 0 0"),
+        ("2 2 6 7 65 1 3 2 1 0", "refused 7 0 0"),
+        ("2 2 6 7 64 1 3 2 1 0", "plan 6 7 ULDRUL"),
+    ];
+    for (job, expected) in rows {
+        assert_eq!(answer(job), expected, "{job}");
+    }
+}
+
+/// Boards whose visits differ where a value is never inherited, always inherited, or a tie goes to the latest return.
+#[test]
+fn boards_that_tell_slips_apart() {
+    assert_eq!(answer("3 2 3 1000 1 1 4 1 0 3 2 5"), "refused 10 0 14");
+    assert_eq!(answer("3 2 6 1000 2 1 3 0 1 4 5 2"), "plan 5 6 RDLLU");
+    assert_eq!(answer("3 2 2 1000 1 1 3 0 1 5 2 4"), "refused 10 0 10");
+}
+
+#[test]
+fn buffers_of_the_planner() {
+    let order = Order { width: 2, height: 2, board: &[3, 2, 1, 0], ceiling: 120, budget: 7, p: 1, q: 1 };
+    let short = Answer::Refused { number: 8, cell: 0, visits: 0 };
+    let (mut moves, mut table) = ([9; 121], [9; 485]);
+    assert_eq!(plan(&order, &mut moves, &mut table[..483]), short);
+    assert_eq!(plan(&order, &mut moves[..119], &mut table), short);
+    assert_eq!((moves, table), ([9; 121], [9; 485]));
+    assert_eq!(plan(&order, &mut moves[..120], &mut table[..484]), Answer::Plan { length: 6, visits: 7 });
+    assert_eq!(moves[..7], [0, 1, 3, 2, 0, 1, 9]);
+    assert_eq!(table[..484], [0; 484]);
+
+    let (mut moves, mut table) = ([9; 7], [9; 29]);
+    let order = Order { ceiling: 6, budget: 6, ..order };
+    assert_eq!(plan(&order, &mut moves, &mut table), Answer::Refused { number: 11, cell: 0, visits: 6 });
+    assert_eq!(moves, [9; 7]);
+    assert_eq!((&table[..28], table[28]), (&[0; 28][..], 9));
+}
+
+#[test]
+fn bytes_of_the_table() {
+    let order = Order { width: 2, height: 2, board: &[1, 0, 2, 3], ceiling: 1, budget: 2, p: 1, q: 1 };
+    let (mut moves, mut table) = ([9; 2], [9; 19]);
+    assert_eq!(entries::plan(&order, &mut moves, &mut table[..15]), 8);
+    assert_eq!(entries::plan_short(&order, &mut moves, &mut table[..17]), 1 << 16 | 2 << 32);
+    assert_eq!((moves, &table[..16], &table[16..]), ([1, 9], &[0; 16][..], &[9; 3][..]));
+    let faulty = Order { board: &[0, 1, 1, 3], ..order };
+    assert_eq!(entries::plan(&faulty, &mut moves, &mut table), 4 | 2 << 8);
+}
+
+#[test]
+fn the_player() {
+    let mut out = [9; 5];
+    let board = [1, 0, 2, 3];
+    assert_eq!(play(2, 2, &board, &[1], &mut out), Played::End { goal: true });
+    assert_eq!(out, [0, 1, 2, 3, 9]);
+    assert_eq!(play(2, 2, &board, &[3], &mut out), Played::End { goal: false });
+    assert_eq!(out, [1, 3, 2, 0, 9]);
+    for (moves, number, place) in [(&[1, 4, 0][..], 13, 1), (&[1, 3, 1, 4], 14, 2), (&[255], 13, 0)] {
+        assert_eq!(play(2, 2, &board, moves, &mut out), Played::Refused { number, place });
+    }
+    assert_eq!(play(2, 2, &board, &[4], &mut out[..3]), Played::Refused { number: 8, place: 0 });
+    assert_eq!(play(2, 2, &[1, 1, 2, 3], &[4], &mut out), Played::Refused { number: 4, place: 1 });
+    assert_eq!(out, [1, 3, 2, 0, 9]);
+}
+
+#[test]
+fn texts_of_jobs() {
+    let good = "2 2 6 7 1 1 3 2 1 0\n";
+    assert_eq!(job::run(good.as_bytes()), "plan 6 7 ULDRUL");
+    let same = ["02 2 6 7 1 1 3 2 1 0\n", "2 2 000000006 7 1 1 3 2 1 0\n", "2 2 6 7 1 01 3 2 1 000\n"];
+    for text in same {
+        assert_eq!(job::run(text.as_bytes()), "plan 6 7 ULDRUL", "{text:?}");
+    }
+    assert_eq!(answer("2 2 -0 7 1 1 0 1 2 3"), "plan 0 1 -");
+    assert_eq!(answer("2 2 -999999999 7 1 1 0 1 2 3"), "refused 5 0 0");
+    for count in [0, 3, 5, 32] {
+        assert_eq!(answer(&format!("2 2 6 7 1 1{}", " 3".repeat(count))), "refused 2 0 0", "{count}");
+    }
+    let malformed = [
+        "",
+        "\n",
+        "2 2 6 7 1 1 3 2 1 0",
+        "2 2 6 7 1 1 3 2 1 0\n\n",
+        " 2 2 6 7 1 1 3 2 1 0\n",
+        "2 2 6 7 1 1 3 2 1 0 \n",
+        "2  2 6 7 1 1 3 2 1 0\n",
+        "2 2 6 7 1\n",
+        "2 2 0000000006 7 1 1 3 2 1 0\n",
+        "2 2 6 -7 1 1 3 2 1 0\n",
+        "2 2 - 7 1 1 3 2 1 0\n",
+        "2 2 +6 7 1 1 3 2 1 0\n",
+        "256 2 6 7 1 1 3 2 1 0\n",
+        "2 2 6 7 256 1 3 2 1 0\n",
+        "2 2 6 7 1 1 3 2 1 256\n",
+        "2 2 6 7 1 1 3 2 1 0\r\n",
+        "2\t2 6 7 1 1 3 2 1 0\n",
+    ];
+    for text in malformed {
+        assert_eq!(job::run(text.as_bytes()), "refused 12 0 0", "{text:?}");
+    }
+    assert_eq!(answer(&format!("2 2 6 7 1 1{}", " 3".repeat(33))), "refused 12 0 0");
+    let longest = format!("2 2 6 7 1 1{}{}\n", " 000000003".repeat(24), " 003");
+    assert_eq!(longest.len(), 256);
+    assert_eq!(job::run(longest.as_bytes()), "refused 2 0 0");
+    assert_eq!(job::run(longest.replacen("2 ", "02 ", 1).as_bytes()), "refused 12 0 0");
+}
+
+#[test]
+fn moves_distance_and_parity() {
+    for shape in SHAPES {
+        let goal = shape.goal();
+        assert_eq!((goal.distance(shape), goal.is_odd(shape)), (0, false));
+        for to in 0..4 {
+            let Some(next) = goal.after(shape, to) else { continue };
+            assert_eq!(next.after(shape, 3 - to), Some(goal));
+            assert_eq!((next.distance(shape), next.is_odd(shape)), (1, false));
+        }
+    }
+    let shape = Shape { width: 4, height: 4 };
+    assert_eq!(shape.apart(0, 15), 6);
+    let mut cells = [0; 16];
+    cells[..4].copy_from_slice(&[3, 2, 1, 0]);
+    assert_eq!(Board { cells, empty: 3 }.distance(Shape { width: 2, height: 2 }), 6);
+    assert_eq!(crate::board::read(258, 2, &[0; 4]), Err(Fault::Shape));
+}
