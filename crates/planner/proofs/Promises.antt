@@ -1,30 +1,34 @@
 -- What is promised of the whole answer of a call, in the order of the customer's conditions and demands. `answered c` is the answer and the
 -- buffers as they are left; the call's contract says that the code gives exactly these (`call::plan`).
 --     A    a ceiling below zero is never taken
---     B1   refusals 1 to 9 change nothing lent; 10 and 11 leave the moves and clear the stated part of the table, and so does a plan
+--     B1   the order of the tests; refusals 1 to 9 change nothing lent; 10 and 11 leave the moves and clear the stated part of the table, and so does a plan
 --     B2   playing the plan reaches the goal, within the ceiling; the count of visits
 --     B3   the plan's length against every legal list; what 10 and 9 mean; no number of the search comes near infinity
 -- Each is proved in Kept. Assumes nothing.
 use Prim.Native.Nat.{ℕ, _+_, _*_, _≤_, _<_}
-use mathlib.Core.Path.{_≡_, subst, sym}
+use mathlib.Core.Path.{_≡_, subst, sym, _∙_}
 use mathlib.Core.List.{List}
-use mathlib.Core.Logic.{_⊎_}
+use mathlib.Core.Logic.{_↔_, _⊎_}
 use native.Mathlib.Nat.{le-of-mul-le-mul-left}
 use native.Mathlib.Omega.{arith}
 use lib.IntN.{negsuc}
 use lib.ListN.{length, take, drop}
+use Rattle.board.specs.First.{firstOf}
 use Rattle.board.specs.Board.{IsBoard}
 use Rattle.board.specs.Lists.{Solves}
 use Rattle.planner.specs.declared.Plan.{Plan}
+use Rattle.planner.specs.declared.Answer.{Answer}
 use Rattle.planner.specs.declared.Answer.the-variants.{Planned, Refused}
 use Rattle.planner.specs.declared.Refusal.the-variants.{NoPlan, OutOfVisits, OddBoard}
 use Rattle.planner.specs.Row.{infinity}
 use Rattle.planner.specs.Space.{boards}
 use Rattle.planner.specs.Search.{value, static, visit}
-use Rattle.planner.specs.Answer.{Call, shapeOf, weightOf, ceilingOf, cleared, answered, number, visits}
+use Rattle.planner.specs.Answer.{Call, Left, Settles, shapeOf, weightOf, ceilingOf, cleared, answered, number, visits}
 use Rattle.planner.proofs.BoardSpace.{board-laws}
 use Rattle.planner.proofs.Theory.{value-within}
+use Rattle.planner.specs.Conditions.{condition}
 use Rattle.planner.proofs.Ways.{GoodBoard, Clear}
+use Rattle.planner.proofs.Order.{given-exactly, else-searched}
 use Rattle.planner.proofs.Kept.{PlanMade, plan-made, untouched-is, late-is, ceiling-below-zero, visits-counted, no-plan-means, out-of-visits-means, odd-board-means, capped}
 
 module _ (c : Call) where
@@ -35,6 +39,13 @@ module _ (c : Call) where
   below-zero = ceiling-below-zero c
 
   -- ---- B1
+
+  -- each of the refusals 1 to 9 is given exactly when its condition holds and no earlier one does; else the search is run
+  pub refused-exactly : (k : ℕ) → 1 ≤ k → k ≤ 9 → (number (answered c .answer) ≡ k) ↔ (firstOf (condition c) 1 9 ≡ k)
+  refused-exactly = given-exactly c
+
+  pub else-a-search : firstOf (condition c) 1 9 ≡ 10 → (number (answered c .answer) ≡ 0) ⊎ (10 ≤ number (answered c .answer))
+  else-a-search = else-searched c
 
   pub early-refusals-touch-nothing : 1 ≤ number (answered c .answer) → number (answered c .answer) ≤ 9 → (answered c .moves ≡ c .moves) × (answered c .table ≡ c .table)
   early-refusals-touch-nothing = untouched-is c
@@ -102,3 +113,10 @@ module _ (c : Call) where
   values-small good clean b board deeper g last stored bound left v left′ depth small run =
       value-within (boards (shapeOf c)) (IsBoard (shapeOf c)) (board-laws (shapeOf c) (good .shape)) (ceilingOf (c .ceiling)) 13440
       (static (boards (shapeOf c)) (weightOf c)) (capped c good clean) g last b board stored (mathlib.Core.Logic.inl small) deeper bound left depth run
+
+-- ---- the call's contract allows one result
+
+-- any two answers, with the buffers as they are left, that settle the same call are equal
+pub one-result : (l : Left) (a b : Answer) (moves moves′ table table′ : List ℕ) → Settles l a moves table → Settles l b moves′ table′ → (a ≡ b) × (moves ≡ moves′) × (table ≡ table′)
+one-result l a b moves moves′ table table′ s u =
+    (s .answer ∙ sym (u .answer), s .moves ∙ sym (u .moves), s .table ∙ sym (u .table))

@@ -4,3 +4,4 @@ pub mod Row
 pub mod Search
 pub mod Run
 pub mod Answer
+pub mod Conditions
