@@ -22,7 +22,7 @@ use Rattle.jobline.specs.Held.{answerOf, cellsOf, Answers}
 use Rattle.jobline.specs.Line.{planLine, refusedLine}
 use Rattle.jobline.specs.Put.{LineAnswered}
 use Rattle.jobline.specs.Answer.{lineOf, leftLine, callFor, answerTo, jobOf}
-use Rattle.planner.proofs.Small.{SmallAnswer, answer-small}
+use Rattle.planner.proofs.Small.{Small, answered-small}
 use Rattle.jobline.proofs.Promised.{read-exactly, cells-in-front}
 
 -- ---- the line of an answer
@@ -54,8 +54,8 @@ refusal-line a why n c v moves old new r e en ec ev line =
 -- the moves of a plan are in the buffer, and the cell is one of sixteen
 pub small-enough : (c : Call) (a : Answer) (moves table : List ℕ) → Settles (answered c) a moves table → length moves ≡ 120 → (planLength a ≤ length moves) × (cell a ≤ 15)
 small-enough c a moves table settled long =
-    let small : SmallAnswer a = subst SmallAnswer (sym (settled .answer)) (answer-small c) in
-    (omega (arith, small .length), small .cell)
+    let small : Small a = subst Small (sym (settled .answer)) (answered-small c) in
+    (omega (arith, small .length-most), small .cell-most)
 
 -- the call that was made has the job's inputs; its ceiling was handed on as the same number
 pub job-line : (job : JobNumbers) (cells : List ℕ) (y : ℤ) (a : Answer) (moves table old new : List ℕ) (r : ℕ) → y ≡ job .ceiling

@@ -108,12 +108,23 @@ fault-number BadLength = omega arith
 fault-number (TooLarge i) = omega arith
 fault-number (Repeated i) = omega arith
 
-later-number : {five nine : Bool} {r : Refusal} → Later five nine r → (5 ≤ refusalNumber r) × (refusalNumber r ≤ 9)
+pub later-number : {five nine : Bool} {r : Refusal} → Later five nine r → (5 ≤ refusalNumber r) × (refusalNumber r ≤ 9)
 later-number (ceiling e) = omega arith
 later-number (budget e) = omega arith
 later-number (weight e) = omega arith
 later-number (buffers e) = omega arith
 later-number (parity e f) = omega arith
+
+-- only a plan has number 0
+pub refusal-positive : (r : Refusal) → 1 ≤ refusalNumber r
+refusal-positive (Board f) = fault-number f .0
+refusal-positive BadCeiling = omega arith
+refusal-positive BadBudget = omega arith
+refusal-positive BadWeight = omega arith
+refusal-positive ShortBuffer = omega arith
+refusal-positive OddBoard = omega arith
+refusal-positive (NoPlan v) = omega arith
+refusal-positive (OutOfVisits v) = omega arith
 
 module _ (c : Call) where
   number-is : (l : Left) → answered c ≡ l → number (answered c .answer) ≡ number (l .answer)

@@ -18,6 +18,7 @@ pub mod Theory
 pub mod Ways
 pub mod Kept
 pub mod Small
+pub mod Lending
 pub mod Order
 -- for the code's proofs: the space that is meant, the rows in the table, the answers, `work` and `visit`, and the call
 pub mod BoardSpace

@@ -13,27 +13,27 @@ use Rattle.planner.specs.Answer.{Call, Left, concluded, answered, number
 use Rattle.planner.proofs.Ways.{ceiling-passes, budget-passes, Later, ceiling, budget, weight, buffers, parity, Way, faulty, refused, ran, way}
 use Rattle.planner.proofs.Kept.{fault-number, found-within}
 
-pub record SmallAnswer (a : Answer) : Type 0 where
-  pub number : number a ≤ 11
-  pub cell : cell a ≤ 15
-  pub length : planLength a ≤ 120
-  pub visits : visits a ≤ 1000000
+pub record Small (a : Answer) : Type 0 where
+  pub number-most : number a ≤ 11
+  pub cell-most : cell a ≤ 15
+  pub length-most : planLength a ≤ 120
+  pub visits-most : visits a ≤ 1000000
 
-later-small : {five nine : Bool} {r : Refusal} → Later five nine r → SmallAnswer (Refused r)
+later-small : {five nine : Bool} {r : Refusal} → Later five nine r → Small (Refused r)
 later-small (ceiling e) = omega arith
 later-small (budget e) = omega arith
 later-small (weight e) = omega arith
 later-small (buffers e) = omega arith
 later-small (parity e f) = omega arith
 
-pub answer-small : (c : Call) → SmallAnswer (answered c .answer)
+pub answered-small : (c : Call) → Small (answered c .answer)
 unfolding concluded
-answer-small c = go (way c)
+answered-small c = go (way c)
   where
-    of : (l : Left) → answered c ≡ l → SmallAnswer (l .answer) → SmallAnswer (answered c .answer)
-    of l e small = subst (λ (x : Left). SmallAnswer (x .answer)) (sym e) small
+    of : (l : Left) → answered c ≡ l → Small (l .answer) → Small (answered c .answer)
+    of l e small = subst (λ (x : Left). Small (x .answer)) (sym e) small
 
-    go : Way c → SmallAnswer (answered c .answer)
+    go : Way c → Small (answered c .answer)
     go (faulty f given w) = of _ w (omega (arith, fault-number f, fault-cell-inside (c .width) (c .height) (c .board) f given))
     go (refused good r l w) = of _ w (later-small l)
     go (ran good clean (found ms left) run w) =

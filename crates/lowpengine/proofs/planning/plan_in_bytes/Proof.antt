@@ -1,0 +1,103 @@
+-- `lowpengine::planning::plan_in_bytes` meets its contract: the planner's answer for the table's numbers (OwnTable), packed, and the
+-- bytes cleared where its numbers stand. Assumes nothing.
+use borrow.Author.Needs.{needs}
+use Prim.Native.Nat.{_*_, _≤_}
+use mathlib.Core.Path.{_≡_, refl, sym, ap₂, _∙_}
+use native.Mathlib.Omega.{arith}
+use lib.ListN.{length}
+use lib.Seq.{length-take-le}
+use mir.Syntax.{w32}
+use mir.ValLaws.{toZ-ofZ}
+use denote.Ref.{now}
+use Rattle.planner.specs.Answer.{called, number}
+use Rattle.lowpengine.specs.Bytes.{numbers, numbersUsed}
+use Rattle.lowpengine.proofs.OwnTable.{Answered, by-own-table, fields-apart, bytes-within, all-given}
+use Rattle.lowpengine.proofs.planning.plan_in_bytes.Statement.{statement}
+use Rattle.lowpengine.proofs.planning.plan_in_bytes.Tie as tie
+
+-- the place after `numbers_used`, and those before it
+abbrev at-plan : tie.After-numbers-used → tie.After-plan
+at-plan c = c .before .before .before .before .before
+
+abbrev at-start : tie.After-numbers-used → tie.Start
+at-start c = at-plan c .before .before .before .before .before .before .before
+
+-- the planner's answer is that for the table's numbers
+answers : (c : tie.After-numbers-used)
+    → Answered (called (at-start c .args .width) (at-start c .args .height) (now (at-start c .args .board)) (at-start c .args .ceiling) (at-start c .args .budget) (at-start c .args .p) (at-start c .args .q) (now (at-start c .args .moves)) (numbers (now (at-start c .args .table))))
+    (at-plan c .plan .result) (at-plan c .plan .last .1 .1 .1 .1 .1 .1 .1 .0)
+answers c =
+    by-own-table _ _ _ _ _ _ _ _ _ (now (at-start c .args .table)) _ _ _ _ _ (toZ-ofZ w32 _ (at-start c .fits .ceiling))
+    (at-plan c .before .before .before .numbers-lent .ensures) refl (at-plan c .plan .ensures)
+
+used-is : (c : tie.After-numbers-used) → c .numbers-used .result ≡ numbersUsed (number (at-plan c .plan .result)) (at-start c .args .ceiling)
+used-is c =
+    c .numbers-used .ensures
+    ∙ ap₂ numbersUsed (c .before .number .ensures) (toZ-ofZ w32 _ (at-start c .fits .ceiling))
+
+within : (c : tie.After-numbers-used) → 2 * c .numbers-used .result ≤ length (now (at-start c .args .table))
+within c = bytes-within _ _ _ _ _ _ _ _ _ _ _ (answers c) _ (used-is c)
+
+numbers-lent-requires : tie.Need-numbers-lent-requires
+numbers-lent-requires c κs = search needs
+
+array-borrow-prefix-own : tie.Need-array-borrow-prefix-own
+array-borrow-prefix-own c = omega (arith, c .before .numbers-lent .ensures)
+
+slice-aggregate-plan : tie.Need-slice-aggregate-plan
+slice-aggregate-plan c = sym (length-take-le _ _ (omega (arith, c .before .before .numbers-lent .ensures)))
+
+plan-requires : tie.Need-plan-requires
+plan-requires c κs = search needs
+
+number-requires : tie.Need-number-requires
+number-requires c κs = search needs
+
+numbers-used-requires : tie.Need-numbers-used-requires
+numbers-used-requires c κs = search needs
+
+mul-used : tie.Need-mul-used
+mul-used c = omega (arith, within c, at-start c .good)
+
+slice-relend-prefix-clear : tie.Need-slice-relend-prefix-clear
+slice-relend-prefix-clear c = within c
+
+slice-aggregate-clear : tie.Need-slice-aggregate-clear
+slice-aggregate-clear c = sym (length-take-le _ _ (within (c .before)))
+
+clear-requires : tie.Need-clear-requires
+clear-requires c κs = search needs
+
+packed-answer-requires : tie.Need-packed-answer-requires
+packed-answer-requires c κs = fields-apart _ _ _ _ _ _ _ _ _ _ _ (answers (c .before .before .before .before))
+
+same-length : tie.Need-same-length
+same-length c = search needs
+
+same-length-2 : tie.Need-same-length-2
+same-length-2 c = search needs
+
+returns : tie.Need-returns
+returns c =
+    let at-used = c .before .before .before .before .before in
+    let bytes = at-plan at-used .before .before .before .before .slice-known2 in
+    all-given _ _ _ _ _ _ _ _ _ _ _ (answers at-used) _ (used-is at-used) (λ i. bytes .given i .fits) _ _ (c .packed-answer .ensures) (c .before .before .before .clear .ensures)
+
+pub plan-in-bytes-spec : {M : Type 1} → statement M
+plan-in-bytes-spec =
+    tie.close
+    (tie.spec
+    numbers-lent-requires
+    array-borrow-prefix-own
+    slice-aggregate-plan
+    plan-requires
+    number-requires
+    numbers-used-requires
+    mul-used
+    slice-relend-prefix-clear
+    slice-aggregate-clear
+    clear-requires
+    packed-answer-requires
+    same-length
+    same-length-2
+    returns)

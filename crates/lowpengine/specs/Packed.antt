@@ -1,0 +1,34 @@
+-- An answer as one 64-bit number. A plan's answer has four fields: the number (0 for a plan), the cell from bit 8, the length from
+-- bit 16 and the visits from bit 32. A play's answer has the number (0 for a list that was played) and one detail from bit 8.
+-- Assumes nothing.
+use Prim.Native.Nat.{ℕ, _+_, _*_, _-_, _^_, _<_, min}
+use mathlib.Core.Bool.{cond}
+use Rattle.planner.specs.declared.Answer.{Answer}
+use Rattle.planner.specs.Answer.{number, cell, planLength, visits}
+use Rattle.player.specs.declared.Played.{Played}
+use Rattle.player.specs.declared.Played.the-variants.{End, Refused}
+use Rattle.player.specs.Answers.{answerNumber, refusalPlace}
+
+-- fields that do not run into each other
+pub record Apart (number cell length : ℕ) : Type 0 where
+  pub small-number : number < 2 ^ 8
+  pub small-cell : cell < 2 ^ 8
+  pub small-length : length < 2 ^ 16
+
+abbrev pub packed : ℕ → ℕ → ℕ → ℕ → ℕ
+packed number cell length visits = number + 2 ^ 8 * cell + 2 ^ 16 * length + 2 ^ 32 * visits
+
+abbrev pub packedPlan : Answer → ℕ
+packedPlan a = packed (number a) (cell a) (planLength a) (visits a)
+
+-- the largest place that is told
+abbrev pub farthest : ℕ
+farthest = 2 ^ 56 - 1
+
+-- of a list that was played: 1 exactly if it ends at the goal; of a refusal: the cell of 3 and 4, the place of 13 and 14, else 0
+abbrev pub playDetail : Played → ℕ
+playDetail (End goal) = cond goal 1 0
+playDetail (Refused why) = min (refusalPlace why) farthest
+
+abbrev pub packedPlay : Played → ℕ
+packedPlay a = answerNumber a + 2 ^ 8 * playDetail a

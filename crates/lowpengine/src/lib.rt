@@ -1,0 +1,68 @@
+// The entries for the line controller, which is written in C. A slice is a pointer, then a size_t. Any numbers and any bytes may be
+// given: no entry has a precondition but that the slices are the caller's.
+//
+// specs/Bytes.antt has the table as bytes, specs/Packed.antt the answer as one number, specs/Given.antt what an entry gives;
+// proofs/Promises.antt collects what follows for the caller.
+
+mod planning;
+mod playing;
+
+use crate::planning::plan_in_bytes;
+use crate::playing::packed_play;
+use player::play;
+ghost use Rattle.planner.specs.Answer.{called};
+ghost use Rattle.lowpengine.specs.Given.{PlanGiven, PlayGiven};
+
+// Plans with the weight p over q. The answer's number, cell, length and visits come back as one number, at bits 0, 8, 16 and 32.
+#[no_mangle]
+pub extern "C" fn lowpengine_plan(
+    width: u32,
+    height: u32,
+    board: &[u8],
+    ceiling: i32,
+    budget: u32,
+    p: u32,
+    q: u32,
+    moves: &mut [u8],
+    table: &mut [u8],
+) -> u64
+    ensures { λ r. ⌜ PlanGiven
+        (called width height (now (board .entry)) ceiling budget p q (now (moves .entry)) (now (table .entry)))
+        r (now (moves .exit)) (now (table .exit)) ⌝ }
+{
+    plan_in_bytes(width, height, board, ceiling, budget, p, q, moves, table)
+}
+
+// The short call: no weight, which is 1 over 1.
+#[no_mangle]
+pub extern "C" fn lowpengine_plan_short(
+    width: u32,
+    height: u32,
+    board: &[u8],
+    ceiling: i32,
+    budget: u32,
+    moves: &mut [u8],
+    table: &mut [u8],
+) -> u64
+    ensures { λ r. ⌜ PlanGiven
+        (called width height (now (board .entry)) ceiling budget 1 1 (now (moves .entry)) (now (table .entry)))
+        r (now (moves .exit)) (now (table .exit)) ⌝ }
+{
+    plan_in_bytes(width, height, board, ceiling, budget, 1, 1, moves, table)
+}
+
+// Plays a move list. The number comes back at bit 0; from bit 8 on 1 or 0 for whether the list ends at the goal, or a refusal's cell
+// or place.
+#[no_mangle]
+pub extern "C" fn lowpengine_play(
+    width: u32,
+    height: u32,
+    board: &[u8],
+    moves: &[u8],
+    out: &mut [u8],
+) -> u64
+    ensures { λ r. ⌜ PlayGiven width height (now (board .entry)) (now (moves .entry)) (now (out .entry)) r (now (out .exit)) ⌝ }
+{
+    let answer = play(width, height, board, moves, out);
+    packed_play(answer)
+}
