@@ -3,8 +3,8 @@ use crate::Position;
 use crate::Shape;
 ghost use mathlib.Core.Path.{_≡_};
 ghost use mathlib.Core.Bool.{true};
-ghost use Prim.Native.Nat.{_<_};
-ghost use Rattle.board.specs.Shape.{cells, GoodShape};
+ghost use Prim.Native.Nat.{_<_, _*_, _%_};
+ghost use Rattle.board.specs.Shape.{cells, Side, GoodShape};
 ghost use Rattle.board.specs.Moves.{staysOn, leadsTo};
 ghost use Rattle.board.specs.Moves.{legal as Moves·legal, after as Moves·after};
 ghost use Rattle.board.specs.Held.{held, Holds, Taken};
@@ -31,7 +31,7 @@ pub fn after(shape: Shape, p: Position, m: usize) -> Position
     Position { cells, empty: t }
 }
 
-// The move from cell e stays on the grid.
+// The move from cell e stays on the grid. No division: this is in the search's inner loop.
 fn stays_on(shape: Shape, e: usize, m: usize) -> bool
     requires { ⌜ GoodShape shape ⌝ }
     requires { ⌜ e < cells shape ⌝ }
@@ -39,18 +39,36 @@ fn stays_on(shape: Shape, e: usize, m: usize) -> bool
 {
     let width = shape.width;
     if m == 0 {
-        return 0 < e / width;
+        return width <= e;
     }
     if m == 1 {
-        return 0 < e % width;
+        return 0 < column_of(e, width);
     }
     if m == 2 {
-        return e % width + 1 < width;
+        return column_of(e, width) + 1 < width;
     }
     if m == 3 {
-        return e / width + 1 < shape.height;
+        return e + width < width * shape.height;
     }
     false
+}
+
+// The column of cell e, by at most three comparisons.
+fn column_of(e: usize, width: usize) -> usize
+    requires { ⌜ Side width ⌝ }
+    requires { ⌜ e < 4 * width ⌝ }
+    ensures { λ r. ⌜ r ≡ e % width ⌝ }
+{
+    if e < width {
+        return e;
+    }
+    if e < 2 * width {
+        return e - width;
+    }
+    if e < 3 * width {
+        return e - 2 * width;
+    }
+    e - 3 * width
 }
 
 // The cell that the move leads to from cell e.

@@ -1,11 +1,16 @@
--- `board::moves::stays_on` meets its contract: each way out is the definition's clause for the move that was tested. Assumes nothing.
-use Prim.Native.Nat.{ℕ, zero, suc, _<_, _+_, _/_, _%_}
-use mathlib.Core.Path.{_≡_, refl}
-use mathlib.Core.Bool.{false}
+-- `board::moves::stays_on` meets its contract: each way out is the definition's clause for the move that was tested; a cell has a row above
+-- it exactly if it is at least a width, and one below exactly if a width more is still a cell. Assumes nothing.
+use Prim.Native.Nat.{ℕ, zero, suc, _≤_, _<_, _+_, _*_, _/_, _%_}
+use mathlib.Core.Path.{_≡_, refl, sym, _∙_}
+use mathlib.Core.Bool.{Bool, true, false}
+use native.Mathlib.Nat.{mul-le-mul-left}
 use native.Mathlib.Omega.{arith}
+use lib.Dec.{leb, ltb}
+use borrow.Author.Tests.{lt-ltb, le-ltb, leb-true, leb-false, ltb-true, ltb-false}
 use Rattle.board.specs.declared.Shape.{Shape}
+use Rattle.board.specs.Shape.{cells, Side, two, three, four, GoodShape}
 use Rattle.board.specs.Moves.{staysOn}
-use Rattle.board.proofs.Sides.{side-within, cell-row, cell-column}
+use Rattle.board.proofs.Sides.{side-within, cells-within, cell-column}
 use Rattle.board.proofs.moves.stays_on.Statement.{statement}
 use Rattle.board.proofs.moves.stays_on.Tie as tie
 
@@ -17,41 +22,72 @@ no-move s e (suc (suc zero)) a b c d = absurd (c refl)
 no-move s e (suc (suc (suc zero))) a b c d = absurd (d refl)
 no-move s e (suc (suc (suc (suc m)))) a b c d = refl
 
-div-result : tie.Need-div-result
-div-result c = omega (arith, side-within (c .before .pre .0 .wide))
+above : {w : ℕ} → Side w → (e : ℕ) → leb w e ≡ ltb 0 (e / w)
+above {w} side e = go (leb w e) refl
+  where
+    rows : {k : ℕ} → Side k → (k ≤ e → 0 < e / k) × (e < k → e / k ≤ 0)
+    rows two = omega arith
+    rows three = omega arith
+    rows four = omega arith
+
+    go : (t : Bool) → leb w e ≡ t → leb w e ≡ ltb 0 (e / w)
+    go true h = h ∙ sym (lt-ltb 0 (e / w) (rows side .0 (leb-true w e h)))
+    go false h = h ∙ sym (le-ltb 0 (e / w) (rows side .1 (leb-false w e h)))
+
+below : {w : ℕ} → Side w → (e h : ℕ) → ltb (e + w) (w * h) ≡ ltb (e / w + 1) h
+below {w} side e h = go (ltb (e + w) (w * h)) refl
+  where
+    rows : {k : ℕ} → Side k → (e + k < k * h → e / k + 1 < h) × (k * h ≤ e + k → h ≤ e / k + 1)
+    rows two = omega arith
+    rows three = omega arith
+    rows four = omega arith
+
+    go : (t : Bool) → ltb (e + w) (w * h) ≡ t → ltb (e + w) (w * h) ≡ ltb (e / w + 1) h
+    go true x = x ∙ sym (lt-ltb (e / w + 1) h (rows side .0 (ltb-true (e + w) (w * h) x)))
+    go false x = x ∙ sym (le-ltb (e / w + 1) h (rows side .1 (ltb-false (e + w) (w * h) x)))
 
 returns : tie.Need-returns
 unfolding staysOn
-returns c = rw (c .if1 .taken)
+returns c = rw (c .if1 .taken) (above (c .before .pre .0 .wide) (c .before .args .e))
 
-rem-result : tie.Need-rem-result
-rem-result c = omega (arith, side-within (c .before .before .pre .0 .wide))
+-- a cell is less than four widths
+few-widths : {s : Shape} → GoodShape s → (e : ℕ) → e < cells s → e < 4 * s .width
+few-widths {s} good e inside = omega (arith, mul-le-mul-left (s .width) (side-within (good .high) .most), inside)
+
+column-of-requires : tie.Need-column-of-requires
+column-of-requires c κs =
+    let start = c .before .before in
+    (start .pre .0 .wide, few-widths (start .pre .0) (start .args .e) (start .pre .1))
 
 returns-2 : tie.Need-returns-2
 unfolding staysOn
-returns-2 c = rw (c .if2 .taken)
+returns-2 c = rw (c .before .if2 .taken, ← (c .column-of .ensures))
 
-rem-result-2 : tie.Need-rem-result-2
-rem-result-2 c = omega (arith, side-within (c .before .before .before .pre .0 .wide))
+column-of-requires-2 : tie.Need-column-of-requires-2
+column-of-requires-2 c κs =
+    let start = c .before .before .before in
+    (start .pre .0 .wide, few-widths (start .pre .0) (start .args .e) (start .pre .1))
 
 add-result : tie.Need-add-result
-add-result c = omega (arith, cell-column (c .before .before .before .pre .0) (c .before .before .before .args .e))
+add-result c = omega (arith, cell-column (c .before .before .before .before .pre .0) (c .before .before .before .before .args .e))
 
 returns-3 : tie.Need-returns-3
 unfolding staysOn
-returns-3 c = rw (c .if3 .taken)
-
-div-result-2 : tie.Need-div-result-2
-div-result-2 c = omega (arith, side-within (c .before .before .before .before .pre .0 .wide))
+returns-3 c = rw (c .before .if3 .taken, ← (c .column-of2 .ensures))
 
 add-result-2 : tie.Need-add-result-2
 add-result-2 c =
     let start = c .before .before .before .before in
-    omega (arith, cell-row (start .pre .0) (start .args .e) (start .pre .1))
+    omega (arith, cells-within (start .pre .0), side-within (start .pre .0 .wide), start .pre .1)
+
+mul-result : tie.Need-mul-result
+mul-result c = omega (arith, cells-within (c .before .before .before .before .before .pre .0))
 
 returns-4 : tie.Need-returns-4
 unfolding staysOn
-returns-4 c = rw (c .before .if4 .taken)
+returns-4 c =
+    let start = c .before .before .before .before .before in
+    rw (c .before .if4 .taken) (below (start .pre .0 .wide) (start .args .e) (start .args .shape .height))
 
 returns-5 : tie.Need-returns-5
 returns-5 c =
@@ -61,14 +97,13 @@ pub stays-on-spec : {M : Type 1} → statement M
 stays-on-spec =
     tie.close
     (tie.spec
-    div-result
     returns
-    rem-result
+    column-of-requires
     returns-2
-    rem-result-2
+    column-of-requires-2
     add-result
     returns-3
-    div-result-2
     add-result-2
+    mul-result
     returns-4
     returns-5)
