@@ -8,7 +8,9 @@ use std::{env, fs, process};
 fn folded(text: &str) -> String {
     let mut out = String::new();
     for word in text.split_whitespace() {
-        if out.ends_with(|c: char| c.is_alphanumeric() || c == '_') && word.starts_with(|c: char| c.is_alphanumeric() || c == '_') {
+        if out.ends_with(|c: char| c.is_alphanumeric() || c == '_')
+            && word.starts_with(|c: char| c.is_alphanumeric() || c == '_')
+        {
             out.push(' ');
         }
         out += word;
@@ -49,7 +51,8 @@ fn main() {
         }
         entries += 1;
     }
-    let declared = header.matches("uint64_t lowpengine_").count() - header.matches("static inline uint64_t lowpengine_").count();
+    let declared =
+        header.matches("uint64_t lowpengine_").count() - header.matches("static inline uint64_t lowpengine_").count();
     if entries == 0 || declared != entries {
         eprintln!("header: the source exports {entries} functions, the header declares {declared}");
         process::exit(1);
