@@ -49,7 +49,15 @@ fn show_short(width: u32, height: u32, cells: &[u8], ceiling: i32, budget: u32) 
     let mut table = [0u16; 484];
     fill_moves(&mut moves);
     fill_table(&mut table);
-    let answer = plan_short(width, height, cells, ceiling, budget, &mut moves, &mut table);
+    let answer = plan_short(
+        width,
+        height,
+        cells,
+        ceiling,
+        budget,
+        &mut moves,
+        &mut table,
+    );
     print_answer(answer, &moves);
     print_buffers(ceiling, plan_length(answer), &moves, &table);
 }
