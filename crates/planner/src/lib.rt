@@ -6,8 +6,8 @@
 
 pub mod call;
 pub mod fields;
-pub mod row;
-pub mod search;
+mod row;
+mod search;
 
 use board::Fault;
 use board::Shape;
