@@ -1,18 +1,18 @@
 -- From a text to its answer line: what the reading, the planning and the writing give each other. In this order: the line of an answer;
--- the answer of a job; the job of a text. Assumes nothing.
+-- the answer of a job; the job of a text; how long the line is. Assumes nothing.
 use Prim.Native.Nat.{ℕ, _≤_}
 use mathlib.Core.Path.{_≡_, refl, sym, ap, subst, _∙_}
 use mathlib.Core.List.{List}
 use mathlib.Core.Option.{Option, none, some}
 use native.Mathlib.Omega.{arith}
 use lib.IntN.{ℤ}
-use lib.ListN.{length, take, replicate}
+use lib.ListN.{length, take, replicate, length-take}
 use lib.Seq.{length-sets, length-take-le}
 use Rattle.planner.specs.declared.Plan.{Plan}
 use Rattle.planner.specs.declared.Refusal.{Refusal}
 use Rattle.planner.specs.declared.Answer.{Answer}
 use Rattle.planner.specs.declared.Answer.the-variants.{Planned, Refused}
-use Rattle.planner.specs.Answer.{Call, called, answered, Settles, number, cell, visits, planLength}
+use Rattle.planner.specs.Answer.{Call, called, answered, Settles, refusalNumber, refusalCell, refusalVisits, number, cell, visits, planLength}
 use Rattle.jobline.specs.declared.read.JobNumbers.{JobNumbers}
 use Rattle.jobline.specs.declared.read.Reading.{Reading}
 use Rattle.jobline.specs.declared.read.Reading.the-variants.{Job as JobRead, Malformed}
@@ -24,6 +24,7 @@ use Rattle.jobline.specs.Put.{LineAnswered}
 use Rattle.jobline.specs.Answer.{lineOf, leftLine, callFor, answerTo, jobOf}
 use Rattle.planner.proofs.Small.{Small, answered-small}
 use Rattle.jobline.proofs.Promised.{read-exactly, cells-in-front}
+use Rattle.jobline.proofs.Lines.{plan-short, refused-short}
 
 -- ---- the line of an answer
 
@@ -119,3 +120,26 @@ malformed-line text old new answer out out′ r a e line = go (readJob text) ref
     go (some job) is =
         let z : _≡_ {A = ℕ} 0 1 = cc (a .numbers, ap answerOf is) in
         absurd (omega arith)
+
+-- ---- how long the line is
+
+answer-short : (a : Answer) (moves : List ℕ) → Small a → length (lineOf a moves) ≤ 138
+unfolding lineOf
+answer-short (Planned pl) moves small =
+    plan-short (pl .visits) (take (pl .length) moves) (small .visits-most) (omega (arith, length-take (pl .length) moves, small .length-most))
+answer-short (Refused r) moves small =
+    omega (
+      arith,
+      refused-short (refusalNumber r) (refusalCell r) (refusalVisits r) (omega (arith, small .number-most)) (omega (arith, small .cell-most))
+          (small .visits-most),
+    )
+
+-- every text's answer line fits a buffer of 138 bytes, which the job program has
+pub line-fits : (text : List ℕ) → length (answerTo (readJob text)) ≤ 138
+unfolding answerTo
+line-fits text = of (readJob text)
+  where
+    of : (read : Option Job) → length (answerTo read) ≤ 138
+    of none = omega (arith, refused-short 12 0 0 (omega arith) (omega arith) (omega arith))
+    of (some job) =
+        answer-short (answered (callFor job) .answer) (answered (callFor job) .moves) (answered-small (callFor job))
