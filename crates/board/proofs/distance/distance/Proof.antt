@@ -1,14 +1,17 @@
--- `board::distance::distance` meets its contract: the loop sums what the shape's table gives for each cell, which for a board is the tray's
--- distance; no sum on the way is above the board's distance, so none wraps. Assumes nothing.
+-- `board::distance::distance` meets its contract: the loop sums what the shape's table gives for each of sixteen places, which for a board's
+-- cell is the tray's distance and 0 past them; no sum on the way is above the board's distance, so none wraps. Assumes nothing.
 use Prim.Native.Nat.{ℕ, zero, suc, _+_, _*_, _-_, _/_, _%_, _≤_, _<_}
 use mathlib.Core.Path.{_≡_, refl, sym, ap, ap₂, _∙_}
-use mathlib.Core.List.{List, [], _∷_}
+use mathlib.Core.Bool.{Bool, true, false}
+use mathlib.Core.List.{List, [], _∷_, _++_}
+use lib.Dec.{ltb}
+use borrow.Author.Needs.{needs}
 use native.Mathlib.Omega.{arith}
-use native.Mathlib.Nat.{add-zero, zero-add}
+use native.Mathlib.Nat.{add-zero, zero-add, add-assoc}
 use native.Mathlib.Numerals.{add-one}
-use borrow.Author.Tests.{lt-ltb}
-use lib.ListN.{length, getD, take, drop, drop-of-length-le}
-use lib.Seq.{getD-take, drop-cons}
+use borrow.Author.Tests.{lt-ltb, le-ltb, ltb-true, ltb-false}
+use lib.ListN.{length, getD, take, drop, replicate, drop-of-length-le, take-append-drop}
+use lib.Seq.{getD-take, getD-drop, drop-cons}
 use denote.Ref.{now}
 use Rattle.board.specs.declared.Shape.{Shape}
 use Rattle.board.specs.declared.Position.{Position}
@@ -81,89 +84,120 @@ unfolding sumFrom
 all-summed f b n sum i done past long =
     sym (add-zero sum) ∙ ap (λ (l : List ℕ). sum + sumFrom f i l) (sym (drop-of-length-le b {i = i} (omega arith))) ∙ done .whole
 
--- the position's number in cell i is the board's
-cell-of : (n : ℕ) (l : List ℕ) (f : ℕ → ℕ → ℕ) (i v r : ℕ) → i < n → v ≡ at l i → r ≡ f i v → r ≡ f i (at (take n l) i)
-cell-of n l f i v r below is e = e ∙ ap (f i) (is ∙ sym (getD-take n l i 0 below))
+-- zeros, at any place
+zeros-are-0 : (n i : ℕ) → _≡_ {A = ℕ} (getD (replicate n 0) i 0) 0
+zeros-are-0 zero i = refl
+zeros-are-0 (suc n) zero = refl
+zeros-are-0 (suc n) (suc i) = zeros-are-0 n i
 
--- the number of cells, as the length of the board that is held
-count-of : (s : Shape) (p : Position) (n : ℕ) → Holds s p → n ≡ cells s → n ≡ length (take n (p .cells))
-count-of s p n holds e = e ∙ sym (holds .board .long) ∙ ap (λ (k : ℕ). length (take k (p .cells))) (sym e)
+-- ---- the places past the board's cells add nothing
 
--- the sum over the position's cells is the board's distance
-sum-is : (s : Shape) (p : Position) (n : ℕ) (near : List ℕ) → Holds s p → NearTable s near → n ≡ cells s → sumFrom (lookedUp near) 0 (take n (p .cells)) ≡ distance s (held s p)
-sum-is s p n near holds table e =
-    ap (λ (k : ℕ). sumFrom (lookedUp near) 0 (take k (p .cells))) e ∙ total s (held s p) near (holds .shape) (holds .board) table
+sum-append : (f : ℕ → ℕ → ℕ) (i : ℕ) (xs ys : List ℕ) → sumFrom f i (xs ++ ys) ≡ sumFrom f i xs + sumFrom f (i + length xs) ys
+unfolding sumFrom
+sum-append f i [] ys = sym (zero-add (sumFrom f (i + 0) ys) ∙ ap (λ (k : ℕ). sumFrom f k ys) (add-zero i))
+sum-append f i (x ∷ xs) ys =
+    let up : suc i + length xs ≡ i + suc (length xs) = omega arith in
+    ap (λ (k : ℕ). f i x + k) (sum-append f (suc i) xs ys ∙ ap (λ (k : ℕ). sumFrom f (suc i) xs + sumFrom f k ys) up)
+    ∙ sym (add-assoc (f i x) (sumFrom f (suc i) xs) (sumFrom f (i + suc (length xs)) ys))
 
--- a number of the board is below 16
-small-value : (s : Shape) (p : Position) (i v : ℕ) → Holds s p → i < cells s → v ≡ at (p .cells) i → v < 16
-small-value s p i v holds below is =
-    omega (arith, cells-within (holds .shape), holds .board .small i below, getD-take (cells s) (p .cells) i 0 below)
+sum-zeros : (f : ℕ → ℕ → ℕ) (k i : ℕ) → ((j : ℕ) → i ≤ j → j < i + k → f j 0 ≡ 0) → sumFrom f i (replicate k 0) ≡ 0
+unfolding sumFrom
+sum-zeros f zero i none = refl
+sum-zeros f (suc k) i none =
+    omega (arith, none i (omega arith) (omega arith), sum-zeros f k (suc i) (λ j low high. none j (omega arith) (omega arith)))
+
+past-cells : (s : Shape) (near : List ℕ) (i : ℕ) → NearTable s near → cells s ≤ i → i < 16 → lookedUp near i 0 ≡ 0
+unfolding nearAt
+past-cells s near i table past few =
+    let cell : (16 * i + 0) / 16 ≡ i = omega arith in
+    table .entry (16 * i + 0) (omega arith) ∙ simp (cell, le-ltb i (cells s) past)
+
+-- the sum over all sixteen places is the board's distance
+sum-is : (s : Shape) (p : Position) (near : List ℕ) → Holds s p → NearTable s near → sumFrom (lookedUp near) 0 (p .cells) ≡ distance s (held s p)
+sum-is s p near holds table =
+    ap (sumFrom (lookedUp near) 0) (sym (take-append-drop (cells s) (p .cells)) ∙ ap (λ (l : List ℕ). held s p ++ l) (holds .rest))
+    ∙ sum-append (lookedUp near) 0 (held s p) (replicate (16 - cells s) 0)
+    ∙ ap₂ _+_ (total s (held s p) near (holds .shape) (holds .board) table) zeros
+    ∙ add-zero (distance s (held s p))
+  where
+    zeros : sumFrom (lookedUp near) (0 + length (held s p)) (replicate (16 - cells s) 0) ≡ 0
+    zeros =
+        sum-zeros (lookedUp near) (16 - cells s) (0 + length (held s p))
+        (λ j low high. past-cells s near j table (omega (arith, holds .board .long)) (omega (arith, holds .board .long, cells-within (holds .shape))))
+
+-- what stands in any of the sixteen places is below 16
+small-value : (s : Shape) (p : Position) (i v : ℕ) → Holds s p → v ≡ at (p .cells) i → v < 16
+small-value s p i v holds is = go (ltb i (cells s)) refl
+  where
+    go : (t : Bool) → ltb i (cells s) ≡ t → v < 16
+    go true e =
+        let below = ltb-true i (cells s) e in
+        omega (arith, cells-within (holds .shape), holds .board .small i below, getD-take (cells s) (p .cells) i 0 below)
+    go false e =
+        let past = ltb-false i (cells s) e in
+        let place : cells s + (i - cells s) ≡ i = omega arith in
+        let zero-there : at (p .cells) i ≡ 0 =
+        ap (at (p .cells)) (sym place) ∙ sym (getD-drop (cells s) (p .cells) (i - cells s) 0)
+        ∙ ap (λ (l : List ℕ). getD l (i - cells s) 0) (holds .rest) ∙ zeros-are-0 (16 - cells s) (i - cells s) in
+        omega arith
 
 abbrev Inv-loop : tie.InvT-loop
-Inv-loop p near n sum₀ i₀ sum i = Summed (lookedUp near) (take n (p .cells)) n sum i
+Inv-loop p near sum₀ i₀ sum i = Summed (lookedUp near) (p .cells) 16 sum i
 
 abbrev μ-loop : tie.MeasureT-loop
-μ-loop p near n sum₀ i₀ sum i = n - i
-
-cell-count-requires : tie.Need-cell-count-requires Inv-loop μ-loop
-cell-count-requires c κs = c .pre .0 .shape
+μ-loop p near sum₀ i₀ sum i = 16 - i
 
 loop-holds : tie.Need-loop-holds Inv-loop μ-loop
 loop-holds c = record { within = omega arith; whole = zero-add _ }
 
 mul-number-of : tie.Need-mul-number-of Inv-loop μ-loop
-mul-number-of c = omega (arith, cells-within (c .before .before .before .pre .0 .shape))
+mul-number-of c = omega arith
 
 number-at-requires : tie.Need-number-at-requires Inv-loop μ-loop
-number-at-requires c κs = omega (arith, cells-within (c .before .before .before .pre .0 .shape))
+number-at-requires c κs = omega arith
 
 add-number-of : tie.Need-add-number-of Inv-loop μ-loop
-add-number-of c =
-    let h = c .before .before .before .before .pre .0 in
-    omega (arith, cells-within (h .shape), small-value _ _ _ _ h (omega arith) (c .number-at .ensures))
+add-number-of c = omega (arith, small-value _ _ _ _ (c .before .before .before .pre .0) (c .number-at .ensures))
 
 element-copy-out-number-of : tie.Need-element-copy-out-number-of Inv-loop μ-loop
-element-copy-out-number-of c =
-    let h = c .before .before .before .before .pre .0 in
-    omega (arith, cells-within (h .shape), small-value _ _ _ _ h (omega arith) (c .number-at .ensures))
+element-copy-out-number-of c = omega (arith, small-value _ _ _ _ (c .before .before .before .pre .0) (c .number-at .ensures))
 
 number-of-requires : tie.Need-number-of-requires Inv-loop μ-loop
 number-of-requires c κs = tt
 
 add-sum : tie.Need-add-sum Inv-loop μ-loop
 add-sum c =
-    let start = c .before .before .before .before .before .before in
+    let start = c .before .before .before .before .before in
     let h = start .pre .0 in
-    let count = c .before .before .before .before .before .cell-count .ensures in
-    let below = c .before .before .before .loop-test .taken in
+    let sixteen : length (start .args .p .cells) ≡ 16 = search needs in
     omega (
       arith,
-      sum-is _ _ _ _ h (start .pre .1) count,
-      part _ _ _ _ _ _ (c .before .before .before .before .loop .inv) below (count-of _ _ _ h count)
-          (cell-of _ (start .args .p .cells) (lookedUp (now (start .args .near))) _ _ _ below (c .before .before .number-at .ensures) (c .number-of .ensures)),
+      sum-is _ _ _ h (start .pre .1),
+      part (lookedUp (now (start .args .near))) (start .args .p .cells) 16 _ _ _ (c .before .before .before .before .loop .inv)
+          (c .before .before .before .loop-test .taken) (sym sixteen)
+          (c .number-of .ensures ∙ ap (lookedUp (now (start .args .near)) (c .before .before .before .before .loop .i)) (c .before .before .number-at .ensures)),
       distance-at-most-90 _ _ (h .shape) (h .board),
     )
 
 add-i : tie.Need-add-i Inv-loop μ-loop
-add-i c = omega (arith, cells-within (c .before .before .before .before .before .before .pre .0 .shape))
+add-i c = omega arith
 
 loop-less : tie.Need-loop-less Inv-loop μ-loop
 loop-less c = omega arith
 
 loop-again : tie.Need-loop-again Inv-loop μ-loop
 loop-again c =
-    let start = c .before .before .before .before .before .before in
-    let below = c .before .before .before .loop-test .taken in
-    one-more _ _ _ _ _ _ (c .before .before .before .before .loop .inv) below
-    (count-of _ _ _ (start .pre .0) (c .before .before .before .before .before .cell-count .ensures))
-    (cell-of _ (start .args .p .cells) (lookedUp (now (start .args .near))) _ _ _ below (c .before .before .number-at .ensures) (c .number-of .ensures))
+    let start = c .before .before .before .before .before in
+    let sixteen : length (start .args .p .cells) ≡ 16 = search needs in
+    one-more (lookedUp (now (start .args .near))) (start .args .p .cells) 16 _ _ _ (c .before .before .before .before .loop .inv)
+    (c .before .before .before .loop-test .taken) (sym sixteen)
+    (c .number-of .ensures ∙ ap (lookedUp (now (start .args .near)) (c .before .before .before .before .loop .i)) (c .before .before .number-at .ensures))
 
 returns : tie.Need-returns Inv-loop μ-loop
 returns c =
-    let start = c .before .before .before in
-    let count = c .before .before .cell-count .ensures in
-    all-summed _ _ _ _ _ (c .before .loop .inv) (c .loop-test .left) (count-of _ _ _ (start .pre .0) count)
-    ∙ sum-is _ _ _ _ (start .pre .0) (start .pre .1) count
+    let start = c .before .before in
+    let sixteen : length (start .args .p .cells) ≡ 16 = search needs in
+    all-summed _ _ _ _ _ (c .before .loop .inv) (c .loop-test .left) (sym sixteen) ∙ sum-is _ _ _ (start .pre .0) (start .pre .1)
 
 pub distance-spec : {M : Type 1} → statement M
 distance-spec =
@@ -171,7 +205,6 @@ distance-spec =
     (tie.spec
     Inv-loop
     μ-loop
-    cell-count-requires
     loop-holds
     mul-number-of
     number-at-requires
