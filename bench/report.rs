@@ -65,10 +65,10 @@ pub fn text(all: &[Timed], processor: &str, rounds: usize) -> String {
 
 /// Counted once with callgrind, by address: what a count of instructions shows doesn't change from run to run.
 const WHERE: &str = "\n## Where the time goes\n\n\
-    A visit of the library takes some 555 instructions on a 4 by 4 board (weight 3 over 1, counted with callgrind). Over two fifths \
-    of them are the sums of the distance: one for the visited position and one for each successor that is made. The rest is making \
-    positions, which are copied by value, choosing in the row, and the call itself. The sums go when the distance travels with the \
-    move; until then every position made is summed anew, in both programs.\n";
+    A visit of the library takes some 555 instructions on a 4 by 4 board (weight 3 over 1, counted with callgrind). Byte loads and \
+    additions, nearly all of them for the sums of the distance (one for the visited position and one for each successor that is \
+    made), are some 170 of them. The rest is making positions, which are copied by value, choosing in the row, and the call itself. \
+    The sums go when the distance travels with the move; until then every position made is summed anew, in both programs.\n";
 
 fn shapes(to: &mut String, all: &[Timed]) {
     to.push_str("## Visits per second\n\n");
