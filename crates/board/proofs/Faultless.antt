@@ -3,8 +3,9 @@
 use Prim.Native.Nat.{ℕ, zero, suc, _*_, _≤_, _<_}
 use mathlib.Core.Path.{_≡_, refl, subst, _∙_}
 use mathlib.Core.Logic.{_↔_}
-use mathlib.Core.Bool.{Bool, true, false, not, cond, _||_}
+use mathlib.Core.Bool.{Bool, true, false, not, _||_}
 use mathlib.Core.List.{List}
+use mathlib.Core.Option.{Option, none, some}
 use native.Mathlib.Omega.{arith}
 use lib.Dec.{ltb, leb, eqb}
 use lib.ListN.{length}
@@ -17,7 +18,9 @@ use Rattle.board.specs.declared.Tested.the-variants.{Sound, Faulty}
 use Rattle.board.specs.First.{firstOf}
 use Rattle.board.specs.Shape.{cells, GoodShape, badSide}
 use Rattle.board.specs.Board.{at, IsBoard}
-use Rattle.board.specs.Faults.{firstTooLarge, firstHolding, repeats, firstRepeat, tested, faultCell}
+use Rattle.board.specs.Tests.{firstRefusal, FirstToHold, here, later, NoneHolds, end, past}
+use Rattle.board.specs.Faults.{firstTooLarge, firstHolding, repeats, firstRepeat, faultTests, saidOf, tested, faultCell}
+use Rattle.board.proofs.TestsInOrder.{first-means, first-given, none-means}
 use Rattle.board.proofs.Firsts.{firstOf-high, firstOf-fails, firstOf-none}
 use Rattle.board.proofs.Onto.{Small, Once}
 use Rattle.board.proofs.Sides.{neither, side-passes, passing-side, cells-within}
@@ -67,41 +70,56 @@ repeat-within n b = omega (arith, firstOf-high (repeats b) 0 n)
 
 -- ---- the four tests, one after the other
 
--- a test that was passed, and the answer of those after it
-passed : (t : Bool) (f : Fault) (rest : Tested) (s : Shape) → cond t (Faulty f) rest ≡ Sound s → (t ≡ false) × (rest ≡ Sound s)
-passed true f rest s e = let z : _≡_ {A = ℕ} 0 1 = cc in absurd (omega arith)
-passed false f rest s e = (refl, e)
-
 -- the shape that is tested
 abbrev given : ℕ → ℕ → Shape
 given w h = record { width = w; height = h }
 
-sound-given :
-    (w h : ℕ) (b : List ℕ) (s : Shape)
-    → tested w h b ≡ Sound s
-    → (s ≡ given w h) × GoodShape (given w h) × IsBoard (given w h) b
+said-sound : (s : Shape) (o : Option Fault) (s′ : Shape) → saidOf s o ≡ Sound s′ → (o ≡ none) × (s′ ≡ s)
+unfolding saidOf
+said-sound s none s′ e = (refl, cc)
+said-sound s (some f) s′ e = let z : _≡_ {A = ℕ} 0 1 = cc in absurd (omega arith)
+
+said-faulty : (s : Shape) (o : Option Fault) (f : Fault) → saidOf s o ≡ Faulty f → o ≡ some f
+unfolding saidOf
+said-faulty s none f e = let z : _≡_ {A = ℕ} 0 1 = cc in absurd (omega arith)
+said-faulty s (some g) f e = cc
+
+-- `tested` names a fault exactly where that is the first of the four to hold
+pub faulty-means : (w h : ℕ) (b : List ℕ) (f : Fault) → tested w h b ≡ Faulty f → FirstToHold (faultTests w h b) f
 unfolding tested
-sound-given w h b s e =
+faulty-means w h b f e = first-means (faultTests w h b) f (said-faulty (given w h) (firstRefusal (faultTests w h b)) f e)
+
+pub faulty-given : (w h : ℕ) (b : List ℕ) (f : Fault) → FirstToHold (faultTests w h b) f → tested w h b ≡ Faulty f
+unfolding tested saidOf
+faulty-given w h b f first = rw (first-given first)
+
+-- it is Sound where none of the four holds
+pub none-faulty : (w h : ℕ) (b : List ℕ) (s : Shape) → tested w h b ≡ Sound s → NoneHolds (faultTests w h b)
+unfolding tested
+none-faulty w h b s e = none-means (faultTests w h b) (said-sound (given w h) (firstRefusal (faultTests w h b)) s e .0)
+
+pub board-of : (w h : ℕ) (b : List ℕ) → NoneHolds (faultTests w h b) → GoodShape (given w h) × IsBoard (given w h) b
+unfolding faultTests
+board-of w h b (past one (past two (past three (past four end)))) =
     let n = w * h in
-    let first = passed (badSide w || badSide h) _ _ s e in
-    let second = passed (not (eqb (length b) n)) _ _ s (first .1) in
-    let third = passed (ltb (firstTooLarge n b) n) _ _ s (second .1) in
-    let fourth = passed (ltb (firstRepeat n b) n) _ _ s (third .1) in
-    let sides = neither (badSide w) (badSide h) (first .0) in (
-      cc (fourth .1),
+    let sides = neither (badSide w) (badSide h) one in (
       record { wide = passing-side w (sides .0); high = passing-side h (sides .1) },
       record {
-        long = eqb-true (length b) n (not-false (eqb (length b) n) (second .0));
-        small = none-too-large n b .0 (omega (arith, ltb-false (firstTooLarge n b) n (third .0), too-large-within n b));
-        once = none-repeats n b .0 (omega (arith, ltb-false (firstRepeat n b) n (fourth .0), repeat-within n b));
+        long = eqb-true (length b) n (not-false (eqb (length b) n) two);
+        small = none-too-large n b .0 (omega (arith, ltb-false (firstTooLarge n b) n three, too-large-within n b));
+        once = none-repeats n b .0 (omega (arith, ltb-false (firstRepeat n b) n four, repeat-within n b));
       },
     )
 
 pub sound-means : (w h : ℕ) (b : List ℕ) (s : Shape) → tested w h b ≡ Sound s → (s ≡ given w h) × GoodShape s × IsBoard s b
-sound-means w h b s e = let all = sound-given w h b s e in (all .0, rw (all .0) (all .1), rw (all .0) (all .2))
+unfolding tested
+sound-means w h b s e =
+    let same = said-sound (given w h) (firstRefusal (faultTests w h b)) s e .1 in
+    let good = board-of w h b (none-faulty w h b s e) in
+    (same, rw same (good .0), rw same (good .1))
 
 pub faultless-sound : (s : Shape) (b : List ℕ) → GoodShape s → IsBoard s b → tested (s .width) (s .height) b ≡ Sound s
-unfolding tested
+unfolding tested faultTests saidOf firstRefusal
 faultless-sound s b shape board =
     rw (side-passes (shape .wide), side-passes (shape .high), eq-eqb (length b) (cells s) (board .long))
     (rw (none-too-large (cells s) b .1 (board .small), none-repeats (cells s) b .1 (board .once))
@@ -109,33 +127,20 @@ faultless-sound s b shape board =
 
 -- ---- where a fault's cell lies
 
-is-cell : {g : Fault} (f : Fault) → _≡_ {A = Tested} (Faulty g) (Faulty f) → faultCell g ≤ 15 → faultCell f ≤ 15
-is-cell {g} f e h =
-    let same : g ≡ f = cc in
-    subst (λ (x : Fault). faultCell x ≤ 15) same h
+few-cells : (w h : ℕ) → badSide w || badSide h ≡ false → w * h ≤ 16
+few-cells w h sides =
+    let each = neither (badSide w) (badSide h) sides in
+    let good : GoodShape (given w h) = record { wide = passing-side w (each .0); high = passing-side h (each .1) } in
+    cells-within good .most
 
-chain-cell :
-    (one two three four : Bool) (n large repeat : ℕ) (s : Shape) (f : Fault)
-    → (one ≡ false → n ≤ 16)
-    → (three ≡ true → large < n)
-    → (four ≡ true → repeat < n)
-    → cond one (Faulty BadShape) (cond two (Faulty BadLength) (cond three (Faulty (TooLarge large)) (cond four (Faulty (Repeated repeat)) (Sound s)))) ≡ Faulty f
-    → faultCell f ≤ 15
-chain-cell true two three four n large repeat s f few l r e = is-cell f e (omega arith)
-chain-cell false true three four n large repeat s f few l r e = is-cell f e (omega arith)
-chain-cell false false true four n large repeat s f few l r e = is-cell f e (omega (arith, l refl, few refl))
-chain-cell false false false true n large repeat s f few l r e = is-cell f e (omega (arith, r refl, few refl))
-chain-cell false false false false n large repeat s f few l r e = let z : _≡_ {A = ℕ} 0 1 = cc in absurd (omega arith)
+first-inside : (w h : ℕ) (b : List ℕ) (f : Fault) → FirstToHold (faultTests w h b) f → faultCell f ≤ 15
+unfolding faultTests
+first-inside w h b f (here one) = omega arith
+first-inside w h b f (later one (here two)) = omega arith
+first-inside w h b f (later one (later two (here three))) =
+    omega (arith, ltb-true (firstTooLarge (w * h) b) (w * h) three, few-cells w h one)
+first-inside w h b f (later one (later two (later three (here four)))) =
+    omega (arith, ltb-true (firstRepeat (w * h) b) (w * h) four, few-cells w h one)
 
 pub fault-cell-inside : (w h : ℕ) (b : List ℕ) (f : Fault) → tested w h b ≡ Faulty f → faultCell f ≤ 15
-unfolding tested
-fault-cell-inside w h b f e =
-    chain-cell (badSide w || badSide h) (not (eqb (length b) (w * h))) (ltb (firstTooLarge (w * h) b) (w * h))
-    (ltb (firstRepeat (w * h) b) (w * h)) (w * h) (firstTooLarge (w * h) b) (firstRepeat (w * h) b) (given w h) f few
-    (ltb-true (firstTooLarge (w * h) b) (w * h)) (ltb-true (firstRepeat (w * h) b) (w * h)) e
-  where
-    few : badSide w || badSide h ≡ false → w * h ≤ 16
-    few sides =
-        let each = neither (badSide w) (badSide h) sides in
-        let good : GoodShape (given w h) = record { wide = passing-side w (each .0); high = passing-side h (each .1) } in
-        cells-within good .most
+fault-cell-inside w h b f e = first-inside w h b f (faulty-means w h b f e)

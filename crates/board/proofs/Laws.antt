@@ -5,6 +5,10 @@ pub use Rattle.board.proofs.Firsts.{IsFirst, firstOf-first, firstOf-is,
 pub use Rattle.board.proofs.Firsts.{firstOf-fails, firstOf-found, firstOf-none, firstOf-cong}
 pub use Rattle.board.proofs.Firsts.{firstOf-here, firstOf-next, firstOf-passed, firstOf-stops, firstOf-goes-on}
 pub use Rattle.board.proofs.Firsts.{firstOf-ends}
+-- tests in a fixed order
+pub use Rattle.board.proofs.TestsInOrder.{first-means, first-given, none-means, none-given}
+pub use Rattle.board.proofs.TestsInOrder.{front-given, behind-given, none-both, Split, front, behind, first-split, none-split}
+pub use Rattle.board.proofs.TestsInOrder.{front-refusal, behind-refusal}
 -- the pigeonhole
 pub use Rattle.board.proofs.Onto.{Small, Once, Stands, onto}
 -- shapes: sides, how many cells, rows and columns
@@ -40,4 +44,4 @@ pub use Rattle.board.proofs.Parities.{goal-inversions, goal-not-odd, mo
 pub use Rattle.board.proofs.Parities.{odd-never-solved}
 -- tests 1 to 4
 pub use Rattle.board.proofs.Faultless.{none-too-large, too-large-within, none-repeats, repeat-within, sound-means}
-pub use Rattle.board.proofs.Faultless.{faultless-sound, fault-cell-inside}
+pub use Rattle.board.proofs.Faultless.{faultless-sound, fault-cell-inside, faulty-means, faulty-given, none-faulty, board-of}

@@ -3,6 +3,7 @@ pub mod Laws
 pub mod Settled
 -- of the definitions: firsts, boards, moves, distances, parity, faults
 pub mod Firsts
+pub mod TestsInOrder
 pub mod Onto
 pub mod Boards
 pub mod Swaps

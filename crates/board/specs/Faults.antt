@@ -1,8 +1,9 @@
 -- Tests 1 to 4 of a width, a height and a board as they were given, in the paper's order: the first that holds is the answer.
 -- Each fault has the paper's number and, for 3 and 4, the cell. Assumes nothing.
 use Prim.Native.Nat.{ℕ, _*_}
-use mathlib.Core.Bool.{Bool, not, cond, _||_}
-use mathlib.Core.List.{List}
+use mathlib.Core.Bool.{Bool, not, _||_}
+use mathlib.Core.List.{List, [], _∷_}
+use mathlib.Core.Option.{Option, none, some}
 use lib.Dec.{ltb, leb, eqb}
 use lib.ListN.{length}
 use Rattle.board.specs.declared.Shape.{Shape}
@@ -11,6 +12,7 @@ use Rattle.board.specs.declared.Fault.the-variants.{BadShape, BadLength,
 use Rattle.board.specs.declared.Tested.{Tested}
 use Rattle.board.specs.declared.Tested.the-variants.{Sound, Faulty}
 use Rattle.board.specs.First.{firstOf}
+use Rattle.board.specs.Tests.{Test, test, firstRefusal}
 use Rattle.board.specs.Shape.{badSide}
 use Rattle.board.specs.Board.{at}
 
@@ -30,16 +32,23 @@ repeats b i = ltb (firstHolding b (at b i) i) i
 unfoldable pub firstRepeat : ℕ → List ℕ → ℕ
 firstRepeat n b = firstOf (repeats b) 0 n
 
-unfoldable pub tested : ℕ → ℕ → List ℕ → Tested
-tested width height b =
+-- tests 1 to 4, in their order
+unfoldable pub faultTests : ℕ → ℕ → List ℕ → List (Test Fault)
+faultTests width height b =
     let n = width * height in
-    let large = firstTooLarge n b in
-    let repeat = firstRepeat n b in
-    cond (badSide width || badSide height) (Faulty BadShape)
-    (cond (not (eqb (length b) n)) (Faulty BadLength)
-    (cond (ltb large n) (Faulty (TooLarge large))
-    (cond (ltb repeat n) (Faulty (Repeated repeat))
-    (Sound (record { width = width; height = height })))))
+    test (badSide width || badSide height) BadShape
+    ∷ test (not (eqb (length b) n)) BadLength
+    ∷ test (ltb (firstTooLarge n b) n) (TooLarge (firstTooLarge n b))
+    ∷ test (ltb (firstRepeat n b) n) (Repeated (firstRepeat n b))
+    ∷ []
+
+-- what they say: a fault, or the shape
+unfoldable pub saidOf : Shape → Option Fault → Tested
+saidOf s (some fault) = Faulty fault
+saidOf s none = Sound s
+
+unfoldable pub tested : ℕ → ℕ → List ℕ → Tested
+tested width height b = saidOf (record { width = width; height = height }) (firstRefusal (faultTests width height b))
 
 -- the paper's number of each fault, and the cell (0 but for 3 and 4)
 abbrev pub faultNumber : Fault → ℕ

@@ -8,7 +8,8 @@ use Rattle.board.specs.declared.Fault.the-variants.{BadShape, BadLength, TooLar
 use Rattle.board.specs.First.{firstOf}
 use Rattle.board.specs.Board.{emptyCell, isGoal}
 use Rattle.board.specs.Moves.{staysOn, leadsTo, legal, slide, after}
-use Rattle.board.specs.Faults.{tested, firstTooLarge, firstHolding, repeats, firstRepeat}
+use Rattle.board.specs.Tests.{firstRefusal}
+use Rattle.board.specs.Faults.{tested, saidOf, faultTests, firstTooLarge, firstHolding, repeats, firstRepeat}
 use Rattle.player.specs.declared.PlayRefusal.the-variants.{Board, ShortOutput, NoMove, OffGrid}
 use Rattle.player.specs.declared.Played.{Played}
 use Rattle.player.specs.declared.Played.the-variants.{End, Refused}
@@ -56,5 +57,6 @@ rows =
     ∷ []
 
 pub worked : map (λ r. answerFor (r .width) (r .height) (r .board) (r .moves) (r .room)) rows ≡ map (λ r. r .expected) rows
-unfolding answerAfter answerOn comesTo firstBad badMove tested firstTooLarge firstHolding repeats firstRepeat firstOf emptyCell isGoal staysOn leadsTo legal slide after
+unfolding answerAfter answerOn comesTo firstBad badMove tested saidOf faultTests firstRefusal firstTooLarge firstHolding repeats firstRepeat
+    firstOf emptyCell isGoal staysOn leadsTo legal slide after
 worked = refl

@@ -2,7 +2,8 @@
 use native.Mathlib.Omega.{arith}
 use borrow.Author.Needs.{needs}
 use borrow.Author.Tests.{eq-eqb, ne-eqb, lt-ltb, le-ltb}
-use Rattle.board.specs.Faults.{tested}
+use Rattle.board.specs.Tests.{firstRefusal}
+use Rattle.board.specs.Faults.{faultTests, saidOf, tested}
 use Rattle.board.proofs.Sides.{side-passes, cells-within}
 use Rattle.board.proofs.faults.tested_cells.Statement.{statement}
 use Rattle.board.proofs.faults.tested_cells.Tie as tie
@@ -11,7 +12,7 @@ mul-n : tie.Need-mul-n
 mul-n c = omega (arith, cells-within (c .before .pre))
 
 returns : tie.Need-returns
-unfolding tested
+unfolding tested faultTests saidOf firstRefusal
 returns c =
     let good = c .before .before .pre in
     simp (side-passes (good .wide), side-passes (good .high), ne-eqb _ _ (c .if1 .taken))
@@ -20,7 +21,7 @@ first-too-large-requires : tie.Need-first-too-large-requires
 first-too-large-requires c κs = search needs
 
 returns-2 : tie.Need-returns-2
-unfolding tested
+unfolding tested faultTests saidOf firstRefusal
 returns-2 c =
     let good = c .before .before .before .before .pre in
     simp (
@@ -35,7 +36,7 @@ first-repeat-requires : tie.Need-first-repeat-requires
 first-repeat-requires c κs = search needs
 
 returns-3 : tie.Need-returns-3
-unfolding tested
+unfolding tested faultTests saidOf firstRefusal
 returns-3 c =
     let good = c .before .before .before .before .before .before .pre in
     simp (
@@ -49,7 +50,7 @@ returns-3 c =
     )
 
 returns-4 : tie.Need-returns-4
-unfolding tested
+unfolding tested faultTests saidOf firstRefusal
 returns-4 c =
     let good = c .before .before .before .before .before .before .pre in
     simp (
