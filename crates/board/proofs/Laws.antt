@@ -8,7 +8,7 @@ pub use Rattle.board.proofs.Firsts.{firstOf-ends}
 -- tests in a fixed order
 pub use Rattle.board.proofs.TestsInOrder.{first-means, first-given, none-means, none-given}
 pub use Rattle.board.proofs.TestsInOrder.{front-given, behind-given, none-both, Split, front, behind, first-split, none-split}
-pub use Rattle.board.proofs.TestsInOrder.{front-refusal, behind-refusal}
+pub use Rattle.board.proofs.TestsInOrder.{front-refusal, behind-refusal, same-behind}
 -- the pigeonhole
 pub use Rattle.board.proofs.Onto.{Small, Once, Stands, onto}
 -- shapes: sides, how many cells, rows and columns

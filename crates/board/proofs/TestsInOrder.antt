@@ -84,3 +84,16 @@ module _ {R R′ : Type 0} (f : R → R′) where
   unfolding under firstRefusal
   behind-refusal us end = refl
   behind-refusal us (past h rest) = rw h (behind-refusal us rest)
+
+  -- what stands behind matters only where none of the first list holds
+  pub same-behind : (ts : List (Test R)) (us vs : List (Test R′)) → (NoneHolds ts → firstRefusal us ≡ firstRefusal vs)
+      → firstRefusal (under f ts ++ us) ≡ firstRefusal (under f ts ++ vs)
+  unfolding under firstRefusal
+  same-behind [] us vs same = same end
+  same-behind (t ∷ ts) us vs same = go (t .holds) refl (same-behind ts us vs)
+    where
+      go : (b : Bool) → t .holds ≡ b
+          → ((NoneHolds ts → firstRefusal us ≡ firstRefusal vs) → firstRefusal (under f ts ++ us) ≡ firstRefusal (under f ts ++ vs))
+          → cond b (some (f (t .refusal))) (firstRefusal (under f ts ++ us)) ≡ cond b (some (f (t .refusal))) (firstRefusal (under f ts ++ vs))
+      go true h rest = refl
+      go false h rest = rest (λ passed. same (past h passed))

@@ -1,23 +1,32 @@
--- What is promised of the entries, of any inputs. `PlanGiven c r moves′ table′` is what lowpengine_plan gives for the inputs c, and with
--- weight 1 over 1 what lowpengine_plan_short gives; `PlayGiven` is the player's.
+-- What is promised of the entries, of any inputs, as a C programmer has them: of the result r and of the lent bytes. `PlanGiven c r moves′
+-- table′` is what lowpengine_plan gives for the inputs c, and with weight 1 over 1 what lowpengine_plan_short gives; `PlayGiven` is the
+-- player's. Of a plan's result r % 256 is the number, r / 256 % 256 the cell, r / 65536 % 65536 the length and r / 2^32 the visits.
 --     fields, settled    the result is taken apart again; any two results, lent bytes included, that a contract allows are equal
---     table              low byte first; nothing that stood there matters; which bytes are cleared, and that all others stay
---     moves              where the number is 0 the first bytes, as many as the length, lead to the goal; all others stay
+--     table, moves       low byte first; nothing that stood in them matters; which bytes are changed, and that all others stay
+--     A, B1, B2, B3      the customer's conditions, in their order
 -- Assumes nothing.
-use Prim.Native.Nat.{ℕ, _+_, _*_, _/_, _%_, _≤_, _<_}
+use Prim.Native.Nat.{ℕ, _+_, _*_, _/_, _%_, _^_, _≤_, _<_}
 use mathlib.Core.Path.{_≡_, refl, sym, ap, subst, _∙_}
-use mathlib.Core.Logic.{_⊎_, ⊎-elim}
-use mathlib.Core.Bool.{Bool, cond}
+use mathlib.Core.Logic.{_↔_, _⊎_, ⊎-elim, inl, inr}
+use mathlib.Core.Bool.{Bool, true, false, cond}
 use mathlib.Core.List.{List, [], _∷_, _++_}
 use native.Mathlib.Omega.{arith}
+use lib.IntN.{negsuc}
 use lib.ListN.{length, take, drop, replicate}
 use Rattle.board.specs.Lists.{Solves}
+use Rattle.board.specs.Tests.{FirstToHold}
+use Rattle.search.specs.Run.{rowsFor}
+use Rattle.planner.specs.declared.Refusal.{Refusal}
+use Rattle.planner.specs.declared.Refusal.the-variants.{OddBoard, NoPlan, OutOfVisits}
 use Rattle.planner.specs.declared.Answer.{Answer}
 use Rattle.planner.specs.declared.Answer.the-variants.{Planned, Refused as Refusing}
-use Rattle.planner.specs.Answer.{Call, shapeOf, ceilingOf, rowsFor, answered, number, cell, planLength, visits}
-use Rattle.planner.proofs.Promises.{early-refusals-touch-nothing, late-refusals-clear, plan-solves, plan-within-ceiling, plan-fills}
-use Rattle.planner.proofs.Kept.{refusal-positive}
-use Rattle.planner.proofs.Lending.{lending, by-length}
+use Rattle.planner.specs.Limits.{ceilingOf}
+use Rattle.planner.specs.Answer.{Call, shapeOf, tests, answered, refusalNumber, refusalCell, number, cell, planLength, visits, searchRan}
+use Rattle.planner.proofs.Promises as plan
+use Rattle.planner.proofs.theory.Kept.{Returned, OutOf}
+use Rattle.planner.proofs.theory.Numbers.{IsPlan, plan-by-number, IsNoPlan, no-plan-by-number, IsSpent, spent-by-number, odd-by-number, by-test, by-search}
+use Rattle.planner.proofs.theory.Ways.{Way, refused, ran, way}
+use Rattle.planner.proofs.theory.Lending.{lending, by-length, same-moves}
 use Rattle.player.specs.declared.PlayRefusal.{PlayRefusal}
 use Rattle.player.specs.declared.Played.{Played}
 use Rattle.player.specs.declared.Played.the-variants.{End, Refused}
@@ -26,14 +35,14 @@ use Rattle.player.proofs.Laws.{settled}
 use Rattle.lowpengine.specs.Bytes.{AllBytes, numbers, bytesOf, oddByte, numbersUsed}
 use Rattle.lowpengine.specs.Packed.{packedPlan, farthest, playDetail, packedPlay}
 use Rattle.lowpengine.specs.Given.{inNumbers, PlanGiven, PlayGiven}
-use Rattle.lowpengine.proofs.Pairs.{count, back-to-bytes, cleared-bytes}
-use Rattle.lowpengine.proofs.Used.{Used, used, used-none, used-rows}
-use Rattle.lowpengine.proofs.Packing.{Reads, answer-reads, play-number-read, play-detail-read}
+use Rattle.lowpengine.proofs.theory.Pairs.{count, back-to-bytes, cleared-bytes}
+use Rattle.lowpengine.proofs.theory.Used.{Used, used}
+use Rattle.lowpengine.proofs.theory.Packing.{Reads, answer-reads, play-number-read, play-detail-read}
 
 -- ---- fields
 
 -- of every answer that the planner gives: number, cell, length and visits
-pub plan-fields : (c : Call) → Reads (packedPlan (answered c .answer)) (number (answered c .answer)) (cell (answered c .answer)) (planLength (answered c .answer)) (visits (answered c .answer))
+pub plan-fields : (c : Call) → let a = answered c .answer in Reads (packedPlan a) (number a) (cell a) (planLength a) (visits a)
 plan-fields = answer-reads
 
 -- of every answer of the player: its number, and the detail
@@ -49,7 +58,8 @@ place-told why near = play-detail-read (Refused why) ∙ omega arith
 
 -- ---- settled
 
-pub plan-settled : (c : Call) (r s : ℕ) (moves table moves′ table′ : List ℕ) → PlanGiven c r moves table → PlanGiven c s moves′ table′ → (r ≡ s) × (moves ≡ moves′) × (table ≡ table′)
+pub plan-settled : (c : Call) (r s : ℕ) (moves table moves′ table′ : List ℕ) → PlanGiven c r moves table → PlanGiven c s moves′ table′
+    → (r ≡ s) × (moves ≡ moves′) × (table ≡ table′)
 plan-settled c r s moves table moves′ table′ one other =
     (one .answer ∙ sym (other .answer), one .moves ∙ sym (other .moves), one .table ∙ sym (other .table))
 
@@ -62,7 +72,8 @@ play-settled width height b moves found r s out out′ one other =
 -- ---- table
 
 -- low byte first
-pub low-byte-first : (numbers (1 ∷ (0 ∷ (0 ∷ (1 ∷ (7 ∷ []))))) ≡ 1 ∷ (256 ∷ [])) × (bytesOf (1 ∷ (256 ∷ [])) ≡ 1 ∷ (0 ∷ (0 ∷ (1 ∷ [])))) × (oddByte (1 ∷ (0 ∷ (0 ∷ (1 ∷ (7 ∷ []))))) ≡ 7 ∷ [])
+pub low-byte-first : (numbers (1 ∷ 0 ∷ 0 ∷ 1 ∷ 7 ∷ []) ≡ 1 ∷ 256 ∷ []) × (bytesOf (1 ∷ 256 ∷ []) ≡ 1 ∷ 0 ∷ 0 ∷ 1 ∷ [])
+    × (oddByte (1 ∷ 0 ∷ 0 ∷ 1 ∷ 7 ∷ []) ≡ 7 ∷ [])
 unfolding numbers bytesOf oddByte
 low-byte-first = (refl, refl, refl)
 
@@ -70,12 +81,33 @@ low-byte-first = (refl, refl, refl)
 pub bytes-whole : (t : List ℕ) → AllBytes t → bytesOf (numbers t) ++ oddByte t ≡ t
 bytes-whole = back-to-bytes
 
--- calls that differ only in what stands in a table of the same length get the same answer and the same moves
-pub table-never-matters : (c : Call) (t : List ℕ) (r s : ℕ) (moves table moves′ table′ : List ℕ) → length t ≡ length (c .table)
-    → PlanGiven c r moves table → PlanGiven (lending c t) s moves′ table′ → (r ≡ s) × (moves ≡ moves′)
-table-never-matters c t r s moves table moves′ table′ long one other =
-    let same = by-length (inNumbers c) (numbers t) (omega (arith, count (c .table), count t)) in
-    (one .answer ∙ ap packedPlan (same .answer) ∙ sym (other .answer), one .moves ∙ same .moves ∙ sym (other .moves))
+-- calls that differ only in what stands in buffers of the same lengths get the same result; of a plan the same moves stand at the start
+-- of the move bytes, and the others are as they were lent
+pub record SameMoves (r : ℕ) (moves′ lent moves″ : List ℕ) : Type 0 where
+  pub told : moves″ ≡ take (r / 65536 % 65536) moves′ ++ drop (r / 65536 % 65536) lent
+
+pub buffers-never-matter : (c : Call) (moves table : List ℕ) (r s : ℕ) (moves′ table′ moves″ table″ : List ℕ)
+    → length moves ≡ length (c .moves) → length table ≡ length (c .table)
+    → PlanGiven c r moves′ table′ → PlanGiven (lending c moves table) s moves″ table″ → (r ≡ s) × SameMoves r moves′ moves moves″
+buffers-never-matter c moves table r s moves′ table′ moves″ table″ short long one other =
+    let same = by-length (inNumbers c) moves (numbers table) short (omega (arith, count (c .table), count table)) in
+    let length-is = ap (λ x. x / 65536 % 65536) (one .answer) ∙ answer-reads (inNumbers c) .length-read in (
+      one .answer ∙ sym (other .answer ∙ ap packedPlan (same .answer)),
+      record {
+        told =
+            other .moves
+            ∙ same .moves-are
+            ∙ ap (λ l. take (planLength (answered (inNumbers c) .answer)) l ++ drop (planLength (answered (inNumbers c) .answer)) moves) (sym (one .moves))
+            ∙ ap (λ k. take k moves′ ++ drop k moves) (sym length-is);
+      },
+    )
+
+-- what a call that was refused by a test was refused by: the first test that holds, its number and its cell
+pub record RefusedBy (c : Call) (k i : ℕ) : Type 0 where
+  pub why : Refusal
+  pub first : FirstToHold (tests c) why
+  pub number-is : refusalNumber why ≡ k
+  pub cell-is : refusalCell why ≡ i
 
 -- the move bytes afterwards hold a plan of L moves: it solves the board, is within the ceiling, and the bytes past it are as found
 pub record PlanTold (c : Call) (moves′ : List ℕ) (L : ℕ) : Type 0 where
@@ -84,46 +116,147 @@ pub record PlanTold (c : Call) (moves′ : List ℕ) (L : ℕ) : Type 0 where
   pub rest : drop L moves′ ≡ drop L (c .moves)
 
 module _ (c : Call) (bytes : AllBytes (c .table)) (r : ℕ) (moves′ table′ : List ℕ) (given : PlanGiven c r moves′ table′) where
-  number-is : r % 256 ≡ number (answered (inNumbers c) .answer)
-  number-is = ap (λ x. x % 256) (given .answer) ∙ answer-reads (inNumbers c) .number-read
+  -- the answer that r packs, and its fields
+  answer : Answer
+  answer = answered (inNumbers c) .answer
+
+  fields : Reads r (number answer) (cell answer) (planLength answer) (visits answer)
+  unfolding answer
+  fields = subst (λ x. Reads x (number answer) (cell answer) (planLength answer) (visits answer)) (sym (given .answer)) (answer-reads (inNumbers c))
+
+  -- ---- A
+
+  -- with a ceiling below zero the number is 5 or an earlier refusal's
+  pub below-zero : (n : ℕ) → c .ceiling ≡ negsuc n → (1 ≤ r % 256) × (r % 256 ≤ 5)
+  unfolding answer
+  below-zero n e = let it = plan.below-zero (inNumbers c) n e in (omega (arith, fields .number-read), omega (arith, fields .number-read))
+
+  -- ---- B1: which result is given
+
+  -- 1 to 9 exactly when that test holds and no earlier one does, with its cell
+  pub refused-exactly : (k : ℕ) → 1 ≤ k → k ≤ 9 → (r % 256 ≡ k) ↔ RefusedBy (inNumbers c) k (r / 256 % 256)
+  unfolding answer
+  refused-exactly k low high = (λ e. go (way (inNumbers c)) (sym (fields .number-read) ∙ e), λ it. gives it)
+    where
+      go : Way (inNumbers c) → number answer ≡ k → RefusedBy (inNumbers c) k (r / 256 % 256)
+      go (refused {why} first w) e =
+          let is : answer ≡ Refusing why = ap (λ l. l .answer) w in
+          record {
+            why = why;
+            first = first;
+            number-is = sym (ap number is) ∙ e;
+            cell-is = sym (ap cell is) ∙ sym (fields .cell-read);
+          }
+      go (ran passed o run w) e =
+          absurd (⊎-elim (λ (z : number answer ≡ 0). omega arith) (λ (z : 10 ≤ number answer). omega arith) (plan.else-a-search (inNumbers c) passed))
+
+      gives : RefusedBy (inNumbers c) k (r / 256 % 256) → r % 256 ≡ k
+      gives it =
+          let small : refusalNumber (it .why) ≤ 9 = omega (arith, it .number-is) in
+          fields .number-read ∙ ap number (plan.refused-exactly (inNumbers c) (it .why) small .1 (it .first)) ∙ it .number-is
+
+  -- 10 exactly when no test holds and the search returns infinity, 11 exactly when none holds and it is spent; with its visits
+  pub no-plan-exactly : (r % 256 ≡ 10) ↔ Returned (inNumbers c) (r / 2 ^ 32)
+  unfolding answer
+  no-plan-exactly = (given-then, λ it. fields .number-read ∙ ap number (plan.no-plan-exactly (inNumbers c) (r / 2 ^ 32) .1 it))
+    where
+      given-then : r % 256 ≡ 10 → Returned (inNumbers c) (r / 2 ^ 32)
+      given-then e =
+          let it = no-plan-by-number answer (sym (fields .number-read) ∙ e) in
+          let count = sym (ap visits (it .is)) ∙ sym (fields .visits-read) in
+          plan.no-plan-exactly (inNumbers c) (r / 2 ^ 32) .0 (it .is ∙ ap (λ v. Refusing (NoPlan v)) count)
+
+  pub out-of-visits-exactly : (r % 256 ≡ 11) ↔ OutOf (inNumbers c) (r / 2 ^ 32)
+  unfolding answer
+  out-of-visits-exactly = (given-then, λ it. fields .number-read ∙ ap number (plan.out-of-visits-exactly (inNumbers c) (r / 2 ^ 32) .1 it))
+    where
+      given-then : r % 256 ≡ 11 → OutOf (inNumbers c) (r / 2 ^ 32)
+      given-then e =
+          let it = spent-by-number answer (sym (fields .number-read) ∙ e) in
+          let count = sym (ap visits (it .is)) ∙ sym (fields .visits-read) in
+          plan.out-of-visits-exactly (inNumbers c) (r / 2 ^ 32) .0 (it .is ∙ ap (λ v. Refusing (OutOfVisits v)) count)
+
+  pub none-above-11 : r % 256 ≤ 11
+  unfolding answer
+  none-above-11 = omega (arith, fields .number-read, plan.none-above-11 (inNumbers c))
+
+  -- ---- B1: the lent bytes
 
   -- the bytes afterwards, by how many numbers the answer leaves cleared
-  bytes-left : (k : ℕ) → numbersUsed (number (answered (inNumbers c) .answer)) (c .ceiling) ≡ k → table′ ≡ replicate (2 * k) 0 ++ drop (2 * k) (c .table)
+  bytes-left : (k : ℕ) → numbersUsed (searchRan answer) (c .ceiling) ≡ k → table′ ≡ replicate (2 * k) 0 ++ drop (2 * k) (c .table)
+  unfolding answer
   bytes-left k is =
       let left : Used (inNumbers c) k = subst (Used (inNumbers c)) is (used (inNumbers c)) in
       given .table ∙ ap (λ l. bytesOf l ++ oddByte (c .table)) (left .left) ∙ cleared-bytes k (c .table) bytes (left .within)
 
   -- refusals 1 to 9 leave every lent byte as found
   pub early-refusals-leave : 1 ≤ r % 256 → r % 256 ≤ 9 → (moves′ ≡ c .moves) × (table′ ≡ c .table)
+  unfolding answer
   early-refusals-leave low high =
-      let low′ : 1 ≤ number (answered (inNumbers c) .answer) = omega (arith, number-is) in
-      let high′ : number (answered (inNumbers c) .answer) ≤ 9 = omega (arith, number-is) in
-      (given .moves ∙ early-refusals-touch-nothing (inNumbers c) low′ high′ .0, bytes-left 0 (used-none _ (c .ceiling) low′ high′))
+      let low′ : 1 ≤ number answer = omega (arith, fields .number-read) in
+      let high′ : number answer ≤ 9 = omega (arith, fields .number-read) in
+      let none-used = ap (λ b. numbersUsed b (c .ceiling)) (by-test answer low′ high′) in
+      (given .moves ∙ plan.early-refusals-touch-nothing (inNumbers c) low′ high′ .0, bytes-left 0 none-used)
 
   -- 10 and 11 leave the moves as found
   pub late-refusals-leave : 10 ≤ r % 256 → moves′ ≡ c .moves
-  late-refusals-leave late = given .moves ∙ late-refusals-clear (inNumbers c) (omega (arith, number-is)) .0
+  unfolding answer
+  late-refusals-leave late = given .moves ∙ plan.late-refusals-clear (inNumbers c) (omega (arith, fields .number-read)) .0
 
   -- a plan, 10 and 11 leave zeros in the first 8 × (ceiling + 1) bytes of the table, and every other byte as found
-  pub search-clears : (r % 256 ≡ 0) ⊎ (10 ≤ r % 256) → table′ ≡ replicate (8 * (ceilingOf (c .ceiling) + 1)) 0 ++ drop (8 * (ceilingOf (c .ceiling) + 1)) (c .table)
+  pub search-clears : (r % 256 ≡ 0) ⊎ (10 ≤ r % 256)
+      → table′ ≡ replicate (8 * (ceilingOf (c .ceiling) + 1)) 0 ++ drop (8 * (ceilingOf (c .ceiling) + 1)) (c .table)
   search-clears ended =
-      bytes-left (rowsFor (ceilingOf (c .ceiling)))
-      (used-rows _ (c .ceiling) (λ low high. ⊎-elim (λ (e : r % 256 ≡ 0). omega (arith, number-is)) (λ (late : 10 ≤ r % 256). omega (arith, number-is)) ended))
+      bytes-left (rowsFor (ceilingOf (c .ceiling))) (ap (λ b. numbersUsed b (c .ceiling)) (by-search answer (of ended)))
       ∙ ap (λ n. replicate n 0 ++ drop n (c .table)) eightfold
     where
+      of : (r % 256 ≡ 0) ⊎ (10 ≤ r % 256) → (number answer ≡ 0) ⊎ (10 ≤ number answer)
+      of (inl e) = inl (sym (fields .number-read) ∙ e)
+      of (inr late) = inr (omega (arith, fields .number-read))
+
       eightfold : 2 * rowsFor (ceilingOf (c .ceiling)) ≡ 8 * (ceilingOf (c .ceiling) + 1)
       eightfold = omega arith
 
-  -- ---- moves
+  -- ---- B2 and B3, of a plan
 
-  pub plan-told : r % 256 ≡ 0 → PlanTold c moves′ (r / 65536 % 65536)
-  plan-told zero-number = subst (PlanTold c moves′) (sym length-is) (go (answered (inNumbers c) .answer) refl (omega (arith, number-is)))
-    where
-      length-is : r / 65536 % 65536 ≡ planLength (answered (inNumbers c) .answer)
-      length-is = ap (λ x. x / 65536 % 65536) (given .answer) ∙ answer-reads (inNumbers c) .length-read
+  module _ (zero-number : r % 256 ≡ 0) where
+    planned : IsPlan answer
+    planned = plan-by-number answer (sym (fields .number-read) ∙ zero-number)
 
-      go : (a : Answer) → answered (inNumbers c) .answer ≡ a → number a ≡ 0 → PlanTold c moves′ (planLength (answered (inNumbers c) .answer))
-      go (Planned pl) e n =
-          rw (e, given .moves)
-          (record { solves = plan-solves (inNumbers c) pl e; within = plan-within-ceiling (inNumbers c) pl e; rest = plan-fills (inNumbers c) pl e })
-      go (Refusing why) e n = absurd (omega (arith, refusal-positive why))
+    length-is : r / 65536 % 65536 ≡ planned .plan .length
+    length-is = fields .length-read ∙ ap planLength (planned .is)
+
+    pub plan-told : PlanTold c moves′ (r / 65536 % 65536)
+    unfolding answer
+    plan-told =
+        subst (PlanTold c moves′) (sym length-is)
+        (subst (λ ms. PlanTold c ms (planned .plan .length)) (sym (given .moves))
+        (record {
+          solves = plan.plan-solves (inNumbers c) (planned .plan) (planned .is);
+          within = plan.plan-within-ceiling (inNumbers c) (planned .plan) (planned .is);
+          rest = plan.plan-fills (inNumbers c) (planned .plan) (planned .is);
+        }))
+
+    -- q times the length is at most p times that of any legal list to the goal
+    pub plan-near : (ds : List ℕ) → Solves (shapeOf c) (c .board) ds → c .q * (r / 65536 % 65536) ≤ c .p * length ds
+    unfolding answer
+    plan-near ds v = rw length-is (plan.plan-near (inNumbers c) (planned .plan) (planned .is) ds v)
+
+    -- at p = q none is shorter
+    pub plan-shortest : c .p ≡ c .q → (ds : List ℕ) → Solves (shapeOf c) (c .board) ds → r / 65536 % 65536 ≤ length ds
+    unfolding answer
+    plan-shortest e ds v = rw length-is (plan.plan-shortest (inNumbers c) (planned .plan) (planned .is) e ds v)
+
+  -- ---- B3, of refusals 10 and 9
+
+  -- 10: no legal list of at most `ceiling` moves leads to the goal
+  pub no-plan-within : r % 256 ≡ 10 → (ds : List ℕ) → Solves (shapeOf c) (c .board) ds → ceilingOf (c .ceiling) < length ds
+  unfolding answer
+  no-plan-within e =
+      let it = no-plan-by-number answer (sym (fields .number-read) ∙ e) in
+      plan.no-plan-within (inNumbers c) (it .count) (it .is)
+
+  -- 9: none of any length does
+  pub odd-board-never : r % 256 ≡ 9 → (ds : List ℕ) → Solves (shapeOf c) (c .board) ds → ⊥
+  unfolding answer
+  odd-board-never e = plan.odd-board-never (inNumbers c) (odd-by-number answer (sym (fields .number-read) ∙ e))

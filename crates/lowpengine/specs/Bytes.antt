@@ -1,12 +1,12 @@
 -- The table as the controller lends it: two bytes for each number, low byte first. An odd last byte belongs to no number.
 -- Then how many numbers an answer leaves cleared. Assumes nothing.
 use Prim.Native.Nat.{ℕ, _+_, _*_, _/_, _%_, _<_}
-use mathlib.Core.Bool.{cond, _&&_}
+use mathlib.Core.Bool.{Bool, true, false}
 use mathlib.Core.List.{List, [], _∷_}
-use lib.Dec.{leb}
 use lib.IntN.{ℤ}
 use lib.ListN.{getD}
-use Rattle.planner.specs.Answer.{ceilingOf, rowsFor}
+use Rattle.search.specs.Run.{rowsFor}
+use Rattle.planner.specs.Limits.{ceilingOf}
 
 -- every entry is a byte
 abbrev pub AllBytes : List ℕ → Type 0
@@ -29,6 +29,7 @@ oddByte [] = []
 oddByte (only ∷ []) = only ∷ []
 oddByte (low ∷ (high ∷ rest)) = oddByte rest
 
--- how many table numbers are cleared, by an answer's number: none for refusals 1 to 9, and for the others those of the search
-unfoldable pub numbersUsed : ℕ → ℤ → ℕ
-numbersUsed number ceiling = cond (leb 1 number && leb number 9) 0 (rowsFor (ceilingOf ceiling))
+-- how many table numbers are cleared: those of the search where it was run, and else none
+abbrev pub numbersUsed : Bool → ℤ → ℕ
+numbersUsed true ceiling = rowsFor (ceilingOf ceiling)
+numbersUsed false ceiling = 0

@@ -5,11 +5,13 @@ use planner::call::plan;
 use planner::fields::cell;
 use planner::fields::number;
 use planner::fields::plan_length;
+use planner::fields::search_ran;
 use planner::fields::visits;
 ghost use mathlib.Core.Path.{_≡_};
 ghost use Prim.Native.Nat.{_/_, min};
 ghost use lib.ListN.{length, replicate};
-ghost use Rattle.planner.specs.Answer.{called, ceilingOf};
+ghost use Rattle.planner.specs.Limits.{ceilingOf};
+ghost use Rattle.planner.specs.Answer.{called};
 ghost use Rattle.planner.specs.Answer.{number as Answer·number, cell as Answer·cell, planLength};
 ghost use Rattle.lowpengine.specs.Bytes.{numbersUsed};
 ghost use Rattle.lowpengine.specs.Packed.{Apart, packed as Packed·packed, packedPlan};
@@ -48,7 +50,7 @@ pub fn plan_in_bytes(
         moves,
         &mut own[..lent],
     );
-    let used = 2 * numbers_used(number(answer), ceiling);
+    let used = 2 * numbers_used(search_ran(answer), ceiling);
     clear(&mut table[..used]);
     packed_answer(answer)
 }
@@ -61,14 +63,14 @@ fn numbers_lent(bytes: usize) -> usize
     if count < MOST { count } else { MOST }
 }
 
-// How many numbers are cleared: refusals 1 to 9 leave the table as found.
-fn numbers_used(number: u32, ceiling: i32) -> usize
-    ensures { λ r. ⌜ r ≡ numbersUsed number ceiling ⌝ }
+// How many numbers are cleared: those of the search where it was run. A test's refusal leaves the table as found.
+fn numbers_used(ran: bool, ceiling: i32) -> usize
+    ensures { λ r. ⌜ r ≡ numbersUsed ran ceiling ⌝ }
 {
-    if 1 <= number && number <= 9 {
-        return 0;
+    if ran {
+        return 4 * highest_depth(ceiling) + 4;
     }
-    4 * highest_depth(ceiling) + 4
+    0
 }
 
 // The ceiling as a number of moves; 0 for one below 0.

@@ -1,35 +1,38 @@
 -- What is promised of the whole answer of a call, in the order of the customer's conditions and demands. `answered c` is the answer and the
 -- buffers as they are left; the call's contract says that the code gives exactly these (`call::plan`).
 --     A    a ceiling below zero is never taken
---     B1   the order of the tests; refusals 1 to 9 change nothing lent; 10 and 11 leave the moves and clear the stated part of the table, and so does a plan
---     B2   playing the plan reaches the goal, within the ceiling; the count of visits
+--     B1   which answer is given, exactly when; what each leaves in the buffers; that nothing in them matters
+--     B2   playing the plan reaches the goal, within the ceiling; the count of visits; what a spent budget means
 --     B3   the plan's length against every legal list; what 10 and 9 mean; no number of the search comes near infinity
--- Each is proved in Kept. Assumes nothing.
+-- Proved in theory/, in Kept and Lending. Assumes nothing.
 use Prim.Native.Nat.{ℕ, _+_, _*_, _≤_, _<_}
 use mathlib.Core.Path.{_≡_, subst, sym, _∙_}
-use mathlib.Core.List.{List}
-use mathlib.Core.Logic.{_↔_, _⊎_}
+use mathlib.Core.List.{List, _++_}
+use mathlib.Core.Logic.{_↔_, _⊎_, inl}
 use native.Mathlib.Nat.{le-of-mul-le-mul-left}
-use native.Mathlib.Omega.{arith}
 use lib.IntN.{negsuc}
 use lib.ListN.{length, take, drop}
-use Rattle.board.specs.First.{firstOf}
 use Rattle.board.specs.Board.{IsBoard}
 use Rattle.board.specs.Lists.{Solves}
+use Rattle.board.specs.Tests.{FirstToHold, NoneHolds}
+use Rattle.search.specs.Row.{infinity}
+use Rattle.search.specs.Space.{boards}
+use Rattle.search.specs.Search.{value, static, visit}
+use Rattle.search.proofs.theory.Theory.{value-within}
+use Rattle.search.proofs.code.BoardSpace.{board-laws}
 use Rattle.planner.specs.declared.Plan.{Plan}
+use Rattle.planner.specs.declared.Refusal.{Refusal}
+use Rattle.planner.specs.declared.Refusal.the-variants.{NoPlan, OutOfVisits, OddBoard}
 use Rattle.planner.specs.declared.Answer.{Answer}
 use Rattle.planner.specs.declared.Answer.the-variants.{Planned, Refused}
-use Rattle.planner.specs.declared.Refusal.the-variants.{NoPlan, OutOfVisits, OddBoard}
-use Rattle.planner.specs.Row.{infinity}
-use Rattle.planner.specs.Space.{boards}
-use Rattle.planner.specs.Search.{value, static, visit}
-use Rattle.planner.specs.Answer.{Call, Left, Settles, shapeOf, weightOf, ceilingOf, cleared, answered, number, visits}
-use Rattle.planner.proofs.BoardSpace.{board-laws}
-use Rattle.planner.proofs.Theory.{value-within}
-use Rattle.planner.specs.Conditions.{condition}
-use Rattle.planner.proofs.Ways.{GoodBoard, Clear}
-use Rattle.planner.proofs.Order.{given-exactly, else-searched}
-use Rattle.planner.proofs.Kept.{PlanMade, plan-made, untouched-is, late-is, ceiling-below-zero, visits-counted, no-plan-means, out-of-visits-means, odd-board-means, capped}
+use Rattle.planner.specs.Limits.{ceilingOf}
+use Rattle.planner.specs.Answer.{Call, Left, Settles, shapeOf, weightOf, tests, cleared, answered, number, refusalNumber, planLength, visits}
+use Rattle.planner.proofs.theory.Ways.{clear}
+use Rattle.planner.proofs.theory.Kept.{ceiling-below-zero, given-exactly, else-searched, untouched-is, late-is, PlanMade, plan-made}
+use Rattle.planner.proofs.theory.Kept.{visits-counted, Returned, no-plan-is, no-plan-means, OutOf, out-of-visits-is, budgeted}
+use Rattle.planner.proofs.theory.Kept.{spent-before-plan, spent-before-none, odd-board-means, static-most, capped}
+use Rattle.planner.proofs.theory.Small.{answered-small}
+use Rattle.planner.proofs.theory.Lending.{lending, SameAnswer, by-length}
 
 module _ (c : Call) where
   -- ---- A
@@ -38,20 +41,40 @@ module _ (c : Call) where
   pub below-zero : (n : ℕ) → c .ceiling ≡ negsuc n → (1 ≤ number (answered c .answer)) × (number (answered c .answer) ≤ 5)
   below-zero = ceiling-below-zero c
 
-  -- ---- B1
+  -- ---- B1: which answer is given
 
-  -- each of the refusals 1 to 9 is given exactly when its condition holds and no earlier one does; else the search is run
-  pub refused-exactly : (k : ℕ) → 1 ≤ k → k ≤ 9 → (number (answered c .answer) ≡ k) ↔ (firstOf (condition c) 1 9 ≡ k)
+  -- each of the refusals 1 to 9 is given exactly when its test holds and no earlier one does
+  pub refused-exactly : (r : Refusal) → refusalNumber r ≤ 9 → (answered c .answer ≡ Refused r) ↔ FirstToHold (tests c) r
   refused-exactly = given-exactly c
 
-  pub else-a-search : firstOf (condition c) 1 9 ≡ 10 → (number (answered c .answer) ≡ 0) ⊎ (10 ≤ number (answered c .answer))
+  -- 10 exactly when none of them holds and the search returns infinity; v is the count of visits
+  pub no-plan-exactly : (v : ℕ) → (answered c .answer ≡ Refused (NoPlan v)) ↔ Returned c v
+  no-plan-exactly = no-plan-is c
+
+  -- 11 exactly when none of them holds and the search is spent; v is the budget
+  pub out-of-visits-exactly : (v : ℕ) → (answered c .answer ≡ Refused (OutOfVisits v)) ↔ OutOf c v
+  out-of-visits-exactly = out-of-visits-is c
+
+  -- where none of them holds the answer is a plan, 10 or 11, and no answer has a number above 11
+  pub else-a-search : NoneHolds (tests c) → (number (answered c .answer) ≡ 0) ⊎ (10 ≤ number (answered c .answer))
   else-a-search = else-searched c
 
-  pub early-refusals-touch-nothing : 1 ≤ number (answered c .answer) → number (answered c .answer) ≤ 9 → (answered c .moves ≡ c .moves) × (answered c .table ≡ c .table)
+  pub none-above-11 : number (answered c .answer) ≤ 11
+  none-above-11 = answered-small c .number-most
+
+  -- ---- B1: the buffers
+
+  pub early-refusals-touch-nothing : 1 ≤ number (answered c .answer) → number (answered c .answer) ≤ 9
+      → (answered c .moves ≡ c .moves) × (answered c .table ≡ c .table)
   early-refusals-touch-nothing = untouched-is c
 
   pub late-refusals-clear : 10 ≤ number (answered c .answer) → (answered c .moves ≡ c .moves) × (answered c .table ≡ cleared c)
   late-refusals-clear = late-is c
+
+  -- with anything else in buffers of the same lengths the answer is the same, and so are the moves of a plan; the other moves stay
+  pub buffers-never-matter : (moves table : List ℕ) → length moves ≡ length (c .moves) → length table ≡ length (c .table)
+      → SameAnswer (answered c) moves (answered (lending c moves table))
+  buffers-never-matter = by-length c
 
   module _ (pl : Plan) (planned : answered c .answer ≡ Planned pl) where
     made : PlanMade c pl
@@ -92,31 +115,44 @@ module _ (c : Call) where
   pub visits-within-budget : visits (answered c .answer) ≤ c .budget
   visits-within-budget = visits-counted c
 
-  pub out-of-visits-is-budget : (v : ℕ) → answered c .answer ≡ Refused (OutOfVisits v) → v ≡ c .budget
-  out-of-visits-is-budget = out-of-visits-means c
+  -- where 11 is given, a plan or a 10 at any other budget takes more visits than this one
+  module _ (v : ℕ) (out : answered c .answer ≡ Refused (OutOfVisits v)) (budget : ℕ) where
+    pub spent-needs-more-to-plan : (pl : Plan) → answered (budgeted c budget) .answer ≡ Planned pl → v < pl .visits
+    spent-needs-more-to-plan = spent-before-plan c v out budget
+
+    pub spent-needs-more-to-refuse : (w : ℕ) → answered (budgeted c budget) .answer ≡ Refused (NoPlan w) → v < w
+    spent-needs-more-to-refuse = spent-before-none c v out budget
 
   -- ---- B3, of refusals 10 and 9
 
   -- refusal 10: no legal list of at most `ceiling` moves leads to the goal
-  pub no-plan-within : (v : ℕ) → answered c .answer ≡ Refused (NoPlan v) → (ds : List ℕ) → Solves (shapeOf c) (c .board) ds → ceilingOf (c .ceiling) < length ds
-  no-plan-within v e = no-plan-means c v e .1
+  pub no-plan-within : (v : ℕ) → answered c .answer ≡ Refused (NoPlan v) → (ds : List ℕ) → Solves (shapeOf c) (c .board) ds
+      → ceilingOf (c .ceiling) < length ds
+  no-plan-within = no-plan-means c
 
   -- refusal 9: none of any length does
   pub odd-board-never : answered c .answer ≡ Refused OddBoard → (ds : List ℕ) → Solves (shapeOf c) (c .board) ds → ⊥
   odd-board-never = odd-board-means c
 
-  -- ---- no number of the search but infinity reaches 65,535
+  -- ---- no number of the search but infinity comes near 65,535
 
-  -- where the tests are passed, a visit to a board that is handed a stored value of at most 13,440 returns such a value or infinity
-  pub values-small : (good : GoodBoard c) (clean : Clear c (shapeOf c)) (b : List ℕ) → IsBoard (shapeOf c) b → (deeper g last stored bound left v left′ : ℕ) → deeper + g ≡ ceilingOf (c .ceiling) → stored ≤ 13440
-      → visit (boards (shapeOf c)) (static (boards (shapeOf c)) (weightOf c)) deeper g b last stored bound left ≡ value v left′ → (v ≤ 13440) ⊎ (v ≡ infinity)
-  values-small good clean b board deeper g last stored bound left v left′ depth small run =
-      value-within (boards (shapeOf c)) (IsBoard (shapeOf c)) (board-laws (shapeOf c) (good .shape)) (ceilingOf (c .ceiling)) 13440
-      (static (boards (shapeOf c)) (weightOf c)) (capped c good clean) g last b board stored (mathlib.Core.Logic.inl small) deeper bound left depth run
+  module _ (passed : NoneHolds (tests c)) (b : List ℕ) (board : IsBoard (shapeOf c) b) where
+    -- f of a board at any depth up to the ceiling is at most 13,440
+    pub f-small : (g : ℕ) → g ≤ ceilingOf (c .ceiling) → static (boards (shapeOf c)) (weightOf c) g b ≤ 13440
+    f-small = static-most c (clear c passed) b board
+
+    -- a visit that is handed a stored value of at most 13,440 returns such a value or infinity
+    pub values-small : (deeper g last stored bound left v left′ : ℕ) → deeper + g ≡ ceilingOf (c .ceiling) → stored ≤ 13440
+        → visit (boards (shapeOf c)) (static (boards (shapeOf c)) (weightOf c)) deeper g b last stored bound left ≡ value v left′
+        → (v ≤ 13440) ⊎ (v ≡ infinity)
+    values-small deeper g last stored bound left v left′ depth small run =
+        value-within (boards (shapeOf c)) (IsBoard (shapeOf c)) (board-laws (shapeOf c) (clear c passed .shape)) (ceilingOf (c .ceiling)) 13440
+        (static (boards (shapeOf c)) (weightOf c)) (capped c (clear c passed)) g last b board stored (inl small) deeper bound left depth run
 
 -- ---- the call's contract allows one result
 
 -- any two answers, with the buffers as they are left, that settle the same call are equal
-pub one-result : (l : Left) (a b : Answer) (moves moves′ table table′ : List ℕ) → Settles l a moves table → Settles l b moves′ table′ → (a ≡ b) × (moves ≡ moves′) × (table ≡ table′)
+pub one-result : (l : Left) (a b : Answer) (moves moves′ table table′ : List ℕ) → Settles l a moves table → Settles l b moves′ table′
+    → (a ≡ b) × (moves ≡ moves′) × (table ≡ table′)
 one-result l a b moves moves′ table table′ s u =
     (s .answer ∙ sym (u .answer), s .moves ∙ sym (u .moves), s .table ∙ sym (u .table))

@@ -1,7 +1,4 @@
--- What the planner means: the space that is searched, the search (document 01, "The search"), and the whole answer of a call.
-pub mod Space
-pub mod Row
-pub mod Search
-pub mod Run
+-- What the planner means: tests 5 to 7, and the whole answer of a call (document 01, "Calling the planner").
+pub mod Limits
 pub mod Answer
-pub mod Conditions
+pub mod Ends

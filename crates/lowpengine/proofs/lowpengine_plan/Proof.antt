@@ -2,7 +2,7 @@
 use borrow.Author.Needs.{needs}
 use mir.Syntax.{w32}
 use mir.ValLaws.{toZ-ofZ}
-use Rattle.lowpengine.proofs.OwnTable.{same-ceiling}
+use Rattle.lowpengine.proofs.code.OwnTable.{same-ceiling}
 use Rattle.lowpengine.proofs.lowpengine_plan.Statement.{statement}
 use Rattle.lowpengine.proofs.lowpengine_plan.Tie as tie
 

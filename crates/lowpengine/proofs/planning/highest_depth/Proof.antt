@@ -11,7 +11,7 @@ use mir.Val.{Fits, SFits}
 use mir.Facts.{fits-natAbs}
 use mir.ValLaws.{toZ-ofZ}
 use borrow.Author.Tests.{ltb-true}
-use Rattle.planner.specs.Answer.{ceilingOf}
+use Rattle.planner.specs.Limits.{ceilingOf}
 use Rattle.lowpengine.proofs.planning.highest_depth.Statement.{statement}
 use Rattle.lowpengine.proofs.planning.highest_depth.Tie as tie
 

@@ -1,7 +1,7 @@
 -- `lowpengine::playing::packed_play` meets its contract: the number and the detail fit together. Assumes nothing.
 use borrow.Author.Needs.{needs}
 use native.Mathlib.Omega.{arith}
-use Rattle.lowpengine.proofs.Sizes.{play-number, play-detail}
+use Rattle.lowpengine.proofs.theory.Sizes.{play-number, play-detail}
 use Rattle.lowpengine.proofs.playing.packed_play.Statement.{statement}
 use Rattle.lowpengine.proofs.playing.packed_play.Tie as tie
 

@@ -1,0 +1,65 @@
+-- What the whole search rests on: the visit to the start; the part of the table that is lent to it, and that part cleared.
+-- Assumes nothing.
+use Prim.Native.Nat.{ℕ, _*_, _+_, _≤_}
+use mathlib.Core.Path.{_≡_, refl, sym, ap, ap₂, _∙_}
+use mathlib.Core.List.{List, _++_}
+use native.Mathlib.Nat.{sub-zero}
+use native.Mathlib.Omega.{arith}
+use lib.ListN.{length, take, drop, replicate}
+use lib.Seq.{length-take-le, length-front, drop-at}
+use Rattle.search.specs.declared.Job.{Job}
+use Rattle.search.specs.declared.Out.{Out}
+use Rattle.search.specs.Row.{infinity}
+use Rattle.search.specs.Space.{boards}
+use Rattle.search.specs.Search.{Outcome, static, visit, search}
+use Rattle.search.specs.Run.{rowsFor, Room, visited, told, written, Ran, ofJob, Ended, clearedRows, Searched}
+
+-- ---- the visit to the start
+
+start-is : (job : Job) (b : List ℕ) (f budget : ℕ) → f ≡ static (boards (job .shape)) (job .weight) 0 b
+    → visited job b 4 0 f infinity budget ≡ ofJob job b budget
+unfolding search
+start-is job b f budget e =
+    ap₂ (λ (deep x : ℕ). visit (boards (job .shape)) (static (boards (job .shape)) (job .weight)) deep 0 b 4 x infinity budget)
+    (sub-zero (job .ceiling)) e
+
+-- what the visit to the start leaves is what the search of the job leaves
+pub started : (job : Job) (b : List ℕ) (f budget : ℕ) (table moves table′ moves′ : List ℕ) (r : Out)
+    → f ≡ static (boards (job .shape)) (job .weight) 0 b
+    → Ran 0 (visited job b 4 0 f infinity budget) table moves r table′ moves′ → Ended (ofJob job b budget) moves r moves′
+started job b f budget table moves table′ moves′ r e ran =
+    record {
+      answer = ran .answer ∙ ap (told 0) (start-is job b f budget e);
+      path = ran .path ∙ ap (λ (o : Outcome). written 0 o moves) (start-is job b f budget e);
+    }
+
+-- ---- the part of the table that is lent
+
+pub part-room : (job : Job) (table moves : List ℕ) (k : ℕ) → k ≡ rowsFor (job .ceiling) → Room job table moves → Room job (take k table) moves
+part-room job table moves k e room =
+    record { rows = omega (arith, length-take-le k table (omega (arith, room .rows)), e); path = room .path }
+
+-- the part as the visit left it is lent again, whole
+pub whole-part : (k : ℕ) (table part : List ℕ) → k ≤ length table → length part ≡ length (take k table)
+    → k ≡ length (take k (part ++ drop k table))
+whole-part k table part room kept = sym (length-take-le k (part ++ drop k table) (rw (length-front table part k kept) room))
+
+-- the part is used, then cleared: zeros, and the rest as it was
+cleared-part : (k : ℕ) (table part zeros : List ℕ) → k ≤ length table → length part ≡ length (take k table)
+    → zeros ≡ replicate (length (take k (part ++ drop k table))) 0
+    → zeros ++ drop k (part ++ drop k table) ≡ replicate k 0 ++ drop k table
+cleared-part k table part zeros room kept e =
+    let long : length part ≡ k = kept ∙ length-take-le k table room in
+    let whole : length (part ++ drop k table) ≡ length table = length-front table part k kept in
+    ap₂ _++_
+    (e ∙ ap (λ (n : ℕ). replicate n 0) (length-take-le k (part ++ drop k table) (omega arith)))
+    (drop-at part (drop k table) k long)
+
+-- the visit to the start ended, and the part of the table that it used was cleared: the whole search
+pub searched-whole : (job : Job) (b : List ℕ) (budget : ℕ) (moves table moves′ part zeros : List ℕ) (r : Out)
+    → rowsFor (job .ceiling) ≤ length table → Ended (ofJob job b budget) moves r moves′
+    → length part ≡ length (take (rowsFor (job .ceiling)) table)
+    → zeros ≡ replicate (length (take (rowsFor (job .ceiling)) (part ++ drop (rowsFor (job .ceiling)) table))) 0
+    → Searched job b budget moves table r moves′ (zeros ++ drop (rowsFor (job .ceiling)) (part ++ drop (rowsFor (job .ceiling)) table))
+searched-whole job b budget moves table moves′ part zeros r room ended kept clear =
+    record { answer = ended .answer; path = ended .path; rows = cleared-part (rowsFor (job .ceiling)) table part zeros room kept clear }

@@ -1,0 +1,38 @@
+-- `search::from_start` meets its contract: it is the visit to the start with F = f and an infinite bound. Assumes nothing.
+use borrow.Author.Needs.{needs}
+use native.Mathlib.Omega.{arith}
+use Rattle.search.proofs.code.Whole.{started}
+use Rattle.search.proofs.from_start.Statement.{statement}
+use Rattle.search.proofs.from_start.Tie as tie
+
+near-table-requires : tie.Need-near-table-requires
+near-table-requires c κs = search needs
+
+static-value-requires : tie.Need-static-value-requires
+static-value-requires c κs = search needs
+
+visit-requires : tie.Need-visit-requires
+visit-requires c κs =
+    let start = c .before .before .before .before .before .before .before .before in
+    (start .pre .0 .0, (start .pre .0 .1, (omega arith, (c .before .before .before .before .before .near-table .ensures, start .pre .1))))
+
+same-length : tie.Need-same-length
+same-length c = search needs
+
+same-length-2 : tie.Need-same-length-2
+same-length-2 c = search needs
+
+returns : tie.Need-returns
+returns c =
+    started _ _ _ _ _ _ _ _ _ (c .before .before .before .before .before .before .before .before .static-value .ensures) (c .before .before .before .before .visit .ensures)
+
+pub from-start-spec : {M : Type 1} → statement M
+from-start-spec =
+    tie.close
+    (tie.spec
+    near-table-requires
+    static-value-requires
+    visit-requires
+    same-length
+    same-length-2
+    returns)

@@ -1,0 +1,14 @@
+-- The search over any space, each file on those above it: rows, laws and walks, the static value, the shape of a claim, then what an
+-- answer says, what it leaves of the budget and how large its numbers get. `Theory` has the final statements.
+pub mod Rows
+pub mod Laws
+pub mod Walks
+pub mod Fair
+pub mod Successors
+pub mod Stored
+pub mod Turns
+pub mod Visits
+pub mod Budget
+pub mod Again
+pub mod Limits
+pub mod Theory

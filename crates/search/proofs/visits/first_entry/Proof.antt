@@ -1,0 +1,79 @@
+-- `search::visits::first_entry` meets its contract: its two tests are those of a successor, and the position after the move holds
+-- the board that the definition speaks of. Assumes nothing.
+use Prim.Native.Nat.{ℕ, suc}
+use mathlib.Core.Path.{_≡_, refl, sym, _∙_}
+use mathlib.Core.Bool.{Bool, true, false, cond, _&&_}
+use native.Mathlib.Numerals.{add-one}
+use borrow.Author.Needs.{needs}
+use Rattle.search.specs.Space.{Space}
+use Rattle.search.specs.Row.{infinity, takesBack, firstStored}
+use Rattle.search.specs.Search.{isSuccessor, firstEntry}
+use Rattle.search.proofs.visits.first_entry.Statement.{statement}
+use Rattle.search.proofs.visits.first_entry.Tie as tie
+
+module _ (S : Space) (f : ℕ → S .State → ℕ) (g : ℕ) (s : S .State) (last stored m : ℕ) where
+  taken-back : takesBack last m ≡ true → infinity ≡ firstEntry S f g s last stored m
+  unfolding firstEntry isSuccessor
+  taken-back e = rw e (go (S .may s m))
+    where
+      go : (t : Bool) → infinity ≡ cond (t && false) (firstStored (f g s) stored (f (suc g) (S .makes s m))) infinity
+      go true = refl
+      go false = refl
+
+  not-legal : S .may s m ≡ false → infinity ≡ firstEntry S f g s last stored m
+  unfolding firstEntry isSuccessor
+  not-legal e = rw e
+
+  successor : S .may s m ≡ true → takesBack last m ≡ false
+      → firstStored (f g s) stored (f (suc g) (S .makes s m)) ≡ firstEntry S f g s last stored m
+  unfolding firstEntry isSuccessor
+  successor e back = rw (e, back)
+
+takes-back-requires : tie.Need-takes-back-requires
+takes-back-requires c κs = search needs
+
+returns : tie.Need-returns
+returns c = taken-back _ _ _ _ _ _ _ (sym (c .before .takes-back .ensures) ∙ c .if1 .taken)
+
+legal-requires : tie.Need-legal-requires
+legal-requires c κs = search needs
+
+after-requires : tie.Need-after-requires
+after-requires c κs = (c .before .before .before .before .pre .1 .0, sym (c .before .legal .ensures) ∙ c .if2 .taken)
+
+add-static-value : tie.Need-add-static-value
+add-static-value c = search needs
+
+static-value-requires : tie.Need-static-value-requires
+static-value-requires c κs =
+    let start = c .before .before .before .before .before in
+    (start .pre .0, (c .after .ensures .holds, (rw add-one (start .pre .1 .1 .0 .1 .0), start .pre .1 .1 .1 .1)))
+
+first-stored-requires : tie.Need-first-stored-requires
+first-stored-requires c κs = search needs
+
+returns-2 : tie.Need-returns-2
+returns-2 c =
+    let made = c .before .before in
+    let tested = made .before .before in
+    let start = tested .before .before .before in
+    rw (c .first-stored .ensures, start .pre .1 .1 .1 .0, c .before .static-value .ensures, made .after .ensures .same, add-one)
+    (successor _ _ _ _ _ _ _ (sym (tested .legal .ensures) ∙ made .before .if2 .taken)
+    (sym (tested .before .before .takes-back .ensures) ∙ tested .before .if1 .left))
+
+returns-3 : tie.Need-returns-3
+returns-3 c = not-legal _ _ _ _ _ _ _ (sym (c .before .legal .ensures) ∙ c .if2 .left)
+
+pub first-entry-spec : {M : Type 1} → statement M
+first-entry-spec =
+    tie.close
+    (tie.spec
+    takes-back-requires
+    returns
+    legal-requires
+    after-requires
+    add-static-value
+    static-value-requires
+    first-stored-requires
+    returns-2
+    returns-3)

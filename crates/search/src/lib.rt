@@ -1,0 +1,80 @@
+// The search: recursive best-first search (Korf 1993) with the customer's move order, tie rule and ceiling.
+//
+// specs/Search.antt is the search in the paper's words, specs/Row.antt every decision that it takes, specs/Run.antt what the code is held
+// to. `run` is a whole search, the one function that another part calls; `visits` has visit and work, `row` the decisions.
+
+mod row;
+mod visits;
+
+use crate::row::INFINITY;
+use crate::visits::static_value;
+use crate::visits::visit;
+use board::Position;
+use board::Shape;
+use board::distance::near_table;
+ghost use mathlib.Core.Path.{_≡_};
+ghost use lib.ListN.{length, replicate};
+ghost use Rattle.board.specs.Held.{held, Holds};
+ghost use Rattle.search.specs.Run.{SmallJob, Room, ofJob, Ended, Searched};
+
+// The weight p over q.
+pub struct Weight {
+    pub p: usize,
+    pub q: usize,
+}
+
+// What stays the same through one search.
+pub struct Job {
+    pub shape: Shape,
+    pub weight: Weight,
+    pub ceiling: usize,
+}
+
+// A move and its stored value.
+pub struct Choice {
+    pub step: usize,
+    pub value: u16,
+}
+
+// How a visit ends.
+pub enum Out {
+    // At the goal: the whole path's length, and the visits left. The path stands in the move buffer.
+    Found(usize, u32),
+    // With the F that it returns, and the visits left.
+    Value(u16, u32),
+    // For want of a visit.
+    Spent,
+}
+
+// A whole search of a tested job: its end, the path in the move buffer, and every number of the table that it used cleared.
+pub fn run(job: Job, start: Position, budget: u32, moves: &mut [u8], table: &mut [u16]) -> Out
+    requires { ⌜ (SmallJob job) × (Holds (job .shape) start) ⌝ }
+    requires { ⌜ Room job (now table) (now moves) ⌝ }
+    ensures { λ r. ⌜ Searched job (held (job .shape) start) budget (now (moves .entry)) (now (table .entry)) r (now (moves .exit)) (now (table .exit)) ⌝ }
+{
+    let rows = 4 * (job.ceiling + 1);
+    let out = from_start(job, start, budget, moves, &mut table[..rows]);
+    clear(&mut table[..rows]);
+    out
+}
+
+// The visit to the start, with F = f and an infinite bound.
+fn from_start(job: Job, start: Position, budget: u32, moves: &mut [u8], table: &mut [u16]) -> Out
+    requires { ⌜ (SmallJob job) × (Holds (job .shape) start) ⌝ }
+    requires { ⌜ Room job (now table) (now moves) ⌝ }
+    ensures { λ r. ⌜ Ended (ofJob job (held (job .shape) start) budget) (now (moves .entry)) r (now (moves .exit)) ⌝ }
+{
+    let near = near_table(job.shape);
+    let f = static_value(job, start, 0, &near);
+    visit(job, start, 4, 0, f, INFINITY, budget, &near, table, moves)
+}
+
+fn clear(table: &mut [u16])
+    ensures { λ _. ⌜ now (table .exit) ≡ replicate (length (now (table .entry))) 0 ⌝ }
+{
+    let mut i = 0;
+    while i < table.len() {
+        table[i] = 0;
+        i += 1;
+    }
+}

@@ -1,0 +1,68 @@
+// The decisions over a row of four stored values, each as its definition in specs/Row.antt says.
+use crate::Choice;
+ghost use mathlib.Core.Path.{_≡_};
+ghost use mathlib.Core.Bool.{not};
+ghost use Prim.Native.Nat.{_≤_, _<_, _+_, min};
+ghost use Rattle.search.specs.Row.{infinity, bestOf, masked, mayGoOn, firstStored, takesBack};
+ghost use Rattle.search.specs.Row.{better as Row·better};
+
+// 65,535 stands for infinity.
+pub const INFINITY: u16 = 65535;
+
+// The move to visit: the least value, and the lower move number at equal values.
+pub fn best_of(a: u16, b: u16, c: u16, d: u16) -> Choice
+    ensures { λ r. ⌜ r ≡ bestOf a b c d ⌝ }
+{
+    let ab = better(Choice { step: 0, value: a }, Choice { step: 1, value: b });
+    let abc = better(ab, Choice { step: 2, value: c });
+    better(abc, Choice { step: 3, value: d })
+}
+
+// The later choice only where its value is less.
+fn better(x: Choice, y: Choice) -> Choice
+    ensures { λ r. ⌜ r ≡ Row·better x y ⌝ }
+{
+    if y.value < x.value { y } else { x }
+}
+
+// A move's value among the others: infinity for the chosen move.
+pub fn other(chosen: usize, m: usize, x: u16) -> u16
+    ensures { λ r. ⌜ r ≡ masked chosen m x ⌝ }
+{
+    if m == chosen { INFINITY } else { x }
+}
+
+// The least value is above the bound, or infinity: the work ends.
+pub fn stops_at(bound: u16, least: u16) -> bool
+    ensures { λ r. ⌜ r ≡ not (mayGoOn bound least) ⌝ }
+{
+    bound < least || least == INFINITY
+}
+
+pub fn lesser(a: u16, b: u16) -> u16
+    ensures { λ r. ⌜ r ≡ min a b ⌝ }
+{
+    if a < b { a } else { b }
+}
+
+// A successor's first stored value.
+pub fn first_stored(f: u16, stored: u16, own: u16) -> u16
+    ensures { λ r. ⌜ r ≡ firstStored f stored own ⌝ }
+{
+    if f < stored {
+        if stored < own {
+            return own;
+        }
+        return stored;
+    }
+    own
+}
+
+// The move m takes back the move `last`.
+pub fn takes_back(last: usize, m: usize) -> bool
+    requires { ⌜ last ≤ 4 ⌝ }
+    requires { ⌜ m < 4 ⌝ }
+    ensures { λ r. ⌜ r ≡ takesBack last m ⌝ }
+{
+    last + m == 3
+}

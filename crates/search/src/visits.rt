@@ -1,0 +1,198 @@
+// The search on the lent table: one stored value for each depth and move. `visit` and `work` call each other, one level deeper
+// each time, so the deepest chain is fixed by the ceiling.
+//
+// The row of depth g is the four numbers of the table from 4g on. A visit at depth g changes no row below g, and writes moves only
+// where it finds the goal.
+use crate::Choice;
+use crate::Job;
+use crate::Out;
+use crate::row::INFINITY;
+use crate::row::best_of;
+use crate::row::first_stored;
+use crate::row::lesser;
+use crate::row::other;
+use crate::row::stops_at;
+use crate::row::takes_back;
+use board::Position;
+use board::distance::distance;
+use board::held::is_goal;
+use board::moves::after;
+use board::moves::legal;
+ghost use mathlib.Core.Path.{_≡_};
+ghost use Prim.Native.Nat.{_+_, _*_, _-_, _≤_, _<_};
+ghost use lib.ListN.{length};
+ghost use Rattle.board.specs.Held.{held, Holds};
+ghost use Rattle.board.specs.Distance.{NearTable};
+ghost use Rattle.search.specs.Row.{best, second};
+ghost use Rattle.search.specs.Space.{boards};
+ghost use Rattle.search.specs.Search.{static, firstEntry, firstRow};
+ghost use Rattle.search.specs.Run.{SmallJob, Room, rowAt, putRow, visited, worked, Ran, Open};
+
+// A visit to the position at depth g, reached by the move `last`, with its stored value and a bound; `left` visits may still be made.
+pub fn visit(
+    job: Job,
+    p: Position,
+    last: usize,
+    g: usize,
+    stored: u16,
+    bound: u16,
+    left: u32,
+    near: &[u8; 256],
+    table: &mut [u16],
+    moves: &mut [u8],
+) -> Out
+    requires { ⌜ SmallJob job ⌝ }
+    requires { ⌜ Holds (job .shape) p ⌝ }
+    requires { ⌜ (last ≤ 4) × (g ≤ job .ceiling) ⌝ }
+    requires { ⌜ NearTable (job .shape) (now near) ⌝ }
+    requires { ⌜ Room job (now table) (now moves) ⌝ }
+    ensures { λ r. ⌜ Ran g (visited job (held (job .shape) p) last g stored bound left)
+        (now (table .entry)) (now (moves .entry)) r (now (table .exit)) (now (moves .exit)) ⌝ }
+{
+    if left == 0 {
+        return Out::Spent;
+    }
+    if is_goal(job.shape, p) {
+        return Out::Found(g, left - 1);
+    }
+    if g == job.ceiling {
+        return Out::Value(INFINITY, left - 1);
+    }
+    first_row(job, p, last, g, stored, near, table);
+    work(job, p, g, bound, left - 1, near, table, moves)
+}
+
+// The work through the successors of the position at depth g, whose stored values are in the table.
+fn work(
+    job: Job,
+    p: Position,
+    g: usize,
+    bound: u16,
+    left: u32,
+    near: &[u8; 256],
+    table: &mut [u16],
+    moves: &mut [u8],
+) -> Out
+    requires { ⌜ SmallJob job ⌝ }
+    requires { ⌜ Holds (job .shape) p ⌝ }
+    requires { ⌜ g < job .ceiling ⌝ }
+    requires { ⌜ NearTable (job .shape) (now near) ⌝ }
+    requires { ⌜ Room job (now table) (now moves) ⌝ }
+    requires { ⌜ Open job (held (job .shape) p) (rowAt (now table) g) ⌝ }
+    ensures { λ r. ⌜ Ran g (worked job (held (job .shape) p) g bound (rowAt (now (table .entry)) g) left)
+        (now (table .entry)) (now (moves .entry)) r (now (table .exit)) (now (moves .exit)) ⌝ }
+{
+    let mut left = left;
+    loop {
+        let best = row_best(table, g);
+        let m = best.step;
+        let least = best.value;
+        if stops_at(bound, least) {
+            return Out::Value(least, left);
+        }
+        let down = lesser(bound, row_second(table, g, m));
+        let next = after(job.shape, p, m);
+        match visit(job, next, m, g + 1, least, down, left, near, table, moves) {
+            Out::Found(length, rest) => {
+                moves[g] = m as u8;
+                return Out::Found(length, rest);
+            }
+            Out::Value(v, rest) => {
+                table[4 * g + m] = v;
+                left = rest;
+            }
+            Out::Spent => return Out::Spent,
+        }
+    }
+}
+
+// The best move of the row of depth g, and its value.
+fn row_best(table: &[u16], g: usize) -> Choice
+    requires { ⌜ 4 * (g + 1) ≤ length (now table) ⌝ }
+    ensures { λ r. ⌜ r ≡ best (rowAt (now (table .entry)) g) ⌝ }
+{
+    let at = 4 * g;
+    best_of(table[at], table[at + 1], table[at + 2], table[at + 3])
+}
+
+// The second least value of the row of depth g, whose best move is m.
+fn row_second(table: &[u16], g: usize, m: usize) -> u16
+    requires { ⌜ 4 * (g + 1) ≤ length (now table) ⌝ }
+    requires { ⌜ m ≡ best (rowAt (now table) g) .step ⌝ }
+    ensures { λ r. ⌜ r ≡ second (rowAt (now (table .entry)) g) ⌝ }
+{
+    let at = 4 * g;
+    let rest = best_of(
+        other(m, 0, table[at]),
+        other(m, 1, table[at + 1]),
+        other(m, 2, table[at + 2]),
+        other(m, 3, table[at + 3]),
+    );
+    rest.value
+}
+
+// Puts the first stored values of the successors into the row of depth g.
+fn first_row(
+    job: Job,
+    p: Position,
+    last: usize,
+    g: usize,
+    stored: u16,
+    near: &[u8; 256],
+    table: &mut [u16],
+)
+    requires { ⌜ SmallJob job ⌝ }
+    requires { ⌜ Holds (job .shape) p ⌝ }
+    requires { ⌜ (last ≤ 4) × (g < job .ceiling) ⌝ }
+    requires { ⌜ NearTable (job .shape) (now near) ⌝ }
+    requires { ⌜ 4 * (g + 1) ≤ length (now table) ⌝ }
+    ensures { λ _. ⌜ now (table .exit) ≡ putRow (now (table .entry)) g
+        (firstRow (boards (job .shape)) (static (boards (job .shape)) (job .weight)) g (held (job .shape) p) last stored) ⌝ }
+{
+    let f = static_value(job, p, g, near);
+    let at = 4 * g;
+    table[at] = first_entry(job, p, last, g, f, stored, 0, near);
+    table[at + 1] = first_entry(job, p, last, g, f, stored, 1, near);
+    table[at + 2] = first_entry(job, p, last, g, f, stored, 2, near);
+    table[at + 3] = first_entry(job, p, last, g, f, stored, 3, near);
+}
+
+// The first stored value of a move: infinity where it makes no successor.
+fn first_entry(
+    job: Job,
+    p: Position,
+    last: usize,
+    g: usize,
+    f: u16,
+    stored: u16,
+    m: usize,
+    near: &[u8; 256],
+) -> u16
+    requires { ⌜ SmallJob job ⌝ }
+    requires { ⌜ Holds (job .shape) p ⌝ }
+    requires { ⌜ (last ≤ 4) × ((g < job .ceiling) × (m < 4)) ⌝ }
+    requires { ⌜ f ≡ static (boards (job .shape)) (job .weight) g (held (job .shape) p) ⌝ }
+    requires { ⌜ NearTable (job .shape) (now near) ⌝ }
+    ensures { λ r. ⌜ r ≡ firstEntry (boards (job .shape)) (static (boards (job .shape)) (job .weight)) g (held (job .shape) p) last stored m ⌝ }
+{
+    if takes_back(last, m) {
+        return INFINITY;
+    }
+    if legal(job.shape, p, m) {
+        let next = after(job.shape, p, m);
+        return first_stored(f, stored, static_value(job, next, g + 1, near));
+    }
+    INFINITY
+}
+
+// f = q × g + p × h.
+pub fn static_value(job: Job, p: Position, g: usize, near: &[u8; 256]) -> u16
+    requires { ⌜ SmallJob job ⌝ }
+    requires { ⌜ Holds (job .shape) p ⌝ }
+    requires { ⌜ g ≤ job .ceiling ⌝ }
+    requires { ⌜ NearTable (job .shape) (now near) ⌝ }
+    ensures { λ r. ⌜ r ≡ static (boards (job .shape)) (job .weight) g (held (job .shape) p) ⌝ }
+{
+    let h = distance(job.shape, p, near);
+    (job.weight.q * g + job.weight.p * h) as u16
+}
