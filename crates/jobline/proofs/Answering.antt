@@ -13,16 +13,16 @@ use Rattle.planner.specs.declared.Refusal.{Refusal}
 use Rattle.planner.specs.declared.Answer.{Answer}
 use Rattle.planner.specs.declared.Answer.the-variants.{Planned, Refused}
 use Rattle.planner.specs.Answer.{Call, called, answered, Settles, refusalNumber, refusalCell, refusalVisits, number, cell, visits, planLength}
-use Rattle.jobline.specs.declared.read.JobNumbers.{JobNumbers}
+use Rattle.jobline.specs.declared.read.Numbers.{Numbers}
 use Rattle.jobline.specs.declared.read.Reading.{Reading}
 use Rattle.jobline.specs.declared.read.Reading.the-variants.{Job as JobRead, Malformed}
-use Rattle.jobline.specs.Grammar.{Job}
+use Rattle.jobline.specs.Grammar.{Job, jobOf}
 use Rattle.jobline.specs.Scan.{readJob}
 use Rattle.jobline.specs.Held.{answerOf, cellsOf, Answers}
 use Rattle.jobline.specs.Line.{planLine, refusedLine}
 use Rattle.jobline.specs.Put.{LineAnswered}
-use Rattle.jobline.specs.Answer.{lineOf, leftLine, callFor, answerTo, jobOf}
-use Rattle.planner.proofs.theory.Small.{Small, answered-small}
+use Rattle.jobline.specs.Answer.{lineOf, leftLine, callFor, answerTo}
+use Rattle.planner.proofs.Small.{Small, answered-small}
 use Rattle.jobline.proofs.Promised.{read-exactly, cells-in-front}
 use Rattle.jobline.proofs.Lines.{plan-short, refused-short}
 
@@ -59,18 +59,19 @@ small-enough c a moves table settled long =
     (omega (arith, small .length-most), small .cell-most)
 
 -- the call that was made has the job's inputs; its ceiling was handed on as the same number
-pub job-line : (job : JobNumbers) (cells : List ℕ) (y : ℤ) (a : Answer) (moves table old new : List ℕ) (r : ℕ) → y ≡ job .ceiling
-    → Settles (answered (called (job .width) (job .height) (take (job .count) cells) y (job .budget) (job .p) (job .q) (replicate 120 0) (replicate 484 0))) a moves table
-    → LineAnswered (lineOf a moves) old r new → LineAnswered (answerTo (some (jobOf job cells))) old r new
-unfolding answerTo
-job-line job cells y a moves table old new r same settled line =
-    subst (λ (l : List ℕ). LineAnswered l old r new) (both ∙ ap (λ (z : ℤ). leftLine (answered (given z))) same) line
-  where
-    given : ℤ → Call
-    given z = called (job .width) (job .height) (take (job .count) cells) z (job .budget) (job .p) (job .q) (replicate 120 0) (replicate 484 0)
+abbrev handed : Numbers → List ℕ → ℤ → Call
+handed n cells ceiling =
+    called (n .width) (n .height) cells ceiling (n .budget) (n .p) (n .q) (replicate 120 0) (replicate 484 0)
 
-    both : lineOf a moves ≡ leftLine (answered (given y))
-    both = ap (λ (x : Answer). lineOf x moves) (settled .answer) ∙ ap (lineOf (answered (given y) .answer)) (settled .moves)
+pub job-line : (n : Numbers) (cells : List ℕ) (y : ℤ) (a : Answer) (moves table old new : List ℕ) (r : ℕ) → y ≡ n .ceiling
+    → Settles (answered (handed n cells y)) a moves table → LineAnswered (lineOf a moves) old r new
+    → LineAnswered (answerTo (some (jobOf n cells))) old r new
+unfolding answerTo
+job-line n cells y a moves table old new r same settled line =
+    subst (λ (l : List ℕ). LineAnswered l old r new) (both ∙ ap (λ (z : ℤ). leftLine (answered (handed n cells z))) same) line
+  where
+    both : lineOf a moves ≡ leftLine (answered (handed n cells y))
+    both = ap (λ (x : Answer). lineOf x moves) (settled .answer) ∙ ap (lineOf (answered (handed n cells y) .answer)) (settled .moves)
 
 -- ---- the job of a text
 
@@ -78,37 +79,37 @@ pub kept-length : (read : Option Job) (old new : List ℕ) (answer : Reading) �
 kept-length none old new answer a = ap length (a .cells)
 kept-length (some job) old new answer a = ap length (a .cells) ∙ length-sets old 0 (job .cells)
 
--- what was read, where the answer has a job's numbers
-record JobOfText (text : List ℕ) (j : JobNumbers) (new : List ℕ) : Type 0 where
-  is : readJob text ≡ some (jobOf j new)
-  few : j .count ≤ 32
+-- a text was read, and the answer has a job's numbers
+module _ (text old new : List ℕ) (answer : Reading) (n : Numbers) (count : ℕ) (a : Answers (readJob text) old answer new)
+    (e : answer ≡ JobRead n count) (long : length old ≡ 32) where
+  -- what was read, and how many cells
+  record JobOfText : Type 0 where
+    is : readJob text ≡ some (jobOf n (take count new))
+    few : count ≤ 32
 
-of-text : (text old new : List ℕ) (answer : Reading) (j : JobNumbers) → Answers (readJob text) old answer new → answer ≡ JobRead j → length old ≡ 32 → JobOfText text j new
-of-text text old new answer j a e long = go (readJob text) refl
-  where
-    go : (read : Option Job) → readJob text ≡ read → JobOfText text j new
-    go none is =
-        let z : _≡_ {A = ℕ} 0 1 = cc (a .numbers, ap answerOf is) in
-        absurd (omega arith)
-    go (some job) is =
-        let numbers : answerOf (some job) ≡ JobRead j = ap answerOf (sym is) ∙ sym (a .numbers) ∙ e in
-        let same : _≡_ {A = JobNumbers} (record { width = job .width; height = job .height; ceiling = job .ceiling; budget = job .budget; p = job .p; q = job .q; count = length (job .cells) }) j = cc in
-        let spells = read-exactly text job .0 is in
-        let front : take (length (job .cells)) new ≡ job .cells = ap (take (length (job .cells))) (a .cells ∙ ap (λ (o : Option Job). cellsOf o old) is) ∙ cells-in-front text job old spells long in
-        subst (λ (k : JobNumbers). JobOfText text k new) same
-        (record {
-          is = is ∙ ap (λ (cs : List ℕ). some (record { width = job .width; height = job .height; ceiling = job .ceiling; budget = job .budget; p = job .p; q = job .q; cells = cs })) (sym front);
-          few = spells .count;
-        })
+  of-text : JobOfText
+  of-text = go (readJob text) refl
+    where
+      go : (read : Option Job) → readJob text ≡ read → JobOfText
+      go none is =
+          let z : _≡_ {A = ℕ} 0 1 = cc (a .numbers, ap answerOf is) in
+          absurd (omega arith)
+      go (some job) is =
+          let same : answerOf (some job) ≡ JobRead n count = ap answerOf (sym is) ∙ sym (a .numbers) ∙ e in
+          let numbers : job .numbers ≡ n = cc in
+          let counted : length (job .cells) ≡ count = cc in
+          let spells = read-exactly text job .0 is in
+          let stored : new ≡ cellsOf (some job) old = a .cells ∙ ap (λ (o : Option Job). cellsOf o old) is in
+          let front : take count new ≡ job .cells =
+          rw (← counted, stored) (cells-in-front text job old spells long) in
+          record { is = is ∙ rw (front, ← numbers); few = rw (← counted) (spells .count) }
 
-pub job-count : (text old new : List ℕ) (answer : Reading) (j : JobNumbers) → Answers (readJob text) old answer new → answer ≡ JobRead j → length old ≡ 32 → j .count ≤ length new
-job-count text old new answer j a e long =
-    omega (arith, of-text text old new answer j a e long .few, kept-length (readJob text) old new answer a)
+  pub job-count : count ≤ length new
+  job-count = omega (arith, of-text .few, kept-length (readJob text) old new answer a)
 
-pub text-line : (text old new : List ℕ) (answer : Reading) (j : JobNumbers) (out out′ : List ℕ) (r : ℕ) → Answers (readJob text) old answer new → answer ≡ JobRead j → length old ≡ 32
-    → LineAnswered (answerTo (some (jobOf j new))) out r out′ → LineAnswered (answerTo (readJob text)) out r out′
-text-line text old new answer j out out′ r a e long line =
-    subst (λ (o : Option Job). LineAnswered (answerTo o) out r out′) (sym (of-text text old new answer j a e long .is)) line
+  pub text-line : (out out′ : List ℕ) (r : ℕ)
+      → LineAnswered (answerTo (some (jobOf n (take count new)))) out r out′ → LineAnswered (answerTo (readJob text)) out r out′
+  text-line out out′ r line = subst (λ (o : Option Job). LineAnswered (answerTo o) out r out′) (sym (of-text .is)) line
 
 pub malformed-line : (text old new : List ℕ) (answer : Reading) (out out′ : List ℕ) (r : ℕ) → Answers (readJob text) old answer new → answer ≡ Malformed
     → LineAnswered (refusedLine 12 0 0) out r out′ → LineAnswered (answerTo (readJob text)) out r out′

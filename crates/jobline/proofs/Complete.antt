@@ -17,7 +17,6 @@ use Rattle.jobline.specs.Grammar.{none as no-cells, more as one-more}
 use Rattle.jobline.specs.Scan.{byteAt, run, numberAt, minusAt, fieldAt, signedValue, nines, headOf, endsAt, prepend, cellsAt, readJob}
 use Rattle.jobline.specs.declared.read.NumberRead.{NumberRead}
 use Rattle.jobline.specs.declared.read.NumberRead.the-variants.{Number}
-use Rattle.jobline.specs.declared.read.Head.{Head}
 use Rattle.jobline.specs.declared.read.HeadRead.the-variants.{Sound as Whole}
 use Rattle.jobline.proofs.Runs.{run-append, run-low, value-below, value-bound}
 use Rattle.jobline.proofs.Places.{behind-byte, behind-field, first}
@@ -143,39 +142,27 @@ cells-complete text (suc k) at ss ns (one-more {s = s} {n = v} {ss = ts} {ns = m
 
 -- a whole text
 module _ (text : List ℕ) (job : Job) (s : Spells text job) where
-  width-read : ReadTo (numberAt false 255 text 0) text (job .width) false (s .heightText ∷ s .ceilingText ∷ s .budgetText ∷ s .pText ∷ s .qText ∷ s .cellTexts)
-  width-read = number-complete false 255 text 0 (s .widthText) (job .width) _ (s .width .number) (s .width .most) (s .whole)
+  width-read : ReadTo (numberAt false 255 text 0) text (job .numbers .width) false (s .heightText ∷ s .ceilingText ∷ s .budgetText ∷ s .pText ∷ s .qText ∷ s .cellTexts)
+  width-read = number-complete false 255 text 0 (s .widthText) (job .numbers .width) _ (s .width .number) (s .width .most) (s .whole)
 
-  height-read : ReadTo (fieldAt false 255 text (width-read .next)) text (job .height) false (s .ceilingText ∷ s .budgetText ∷ s .pText ∷ s .qText ∷ s .cellTexts)
-  height-read = field-complete 255 text _ (s .heightText) (job .height) _ (s .height .number) (s .height .most) (width-read .left)
+  height-read : ReadTo (fieldAt false 255 text (width-read .next)) text (job .numbers .height) false (s .ceilingText ∷ s .budgetText ∷ s .pText ∷ s .qText ∷ s .cellTexts)
+  height-read = field-complete 255 text _ (s .heightText) (job .numbers .height) _ (s .height .number) (s .height .most) (width-read .left)
 
-  ceiling-read : SignedTo text (height-read .next) (job .ceiling) (s .budgetText ∷ s .pText ∷ s .qText ∷ s .cellTexts)
-  ceiling-read = ceiling-complete text _ (s .ceilingText) (job .ceiling) _ (s .ceiling) (height-read .left)
+  ceiling-read : SignedTo text (height-read .next) (job .numbers .ceiling) (s .budgetText ∷ s .pText ∷ s .qText ∷ s .cellTexts)
+  ceiling-read = ceiling-complete text _ (s .ceilingText) (job .numbers .ceiling) _ (s .ceiling) (height-read .left)
 
-  budget-read : ReadTo (fieldAt false nines text (ceiling-read .read .next)) text (job .budget) false (s .pText ∷ s .qText ∷ s .cellTexts)
+  budget-read : ReadTo (fieldAt false nines text (ceiling-read .read .next)) text (job .numbers .budget) false (s .pText ∷ s .qText ∷ s .cellTexts)
   budget-read =
-      field-complete nines text _ (s .budgetText) (job .budget) _ (s .budget) (nine (s .budgetText) (job .budget) (s .budget)) (ceiling-read .read .left)
+      field-complete nines text _ (s .budgetText) (job .numbers .budget) _ (s .budget) (nine (s .budgetText) (job .numbers .budget) (s .budget)) (ceiling-read .read .left)
 
-  p-read : ReadTo (fieldAt false 255 text (budget-read .next)) text (job .p) false (s .qText ∷ s .cellTexts)
-  p-read = field-complete 255 text _ (s .pText) (job .p) _ (s .p .number) (s .p .most) (budget-read .left)
+  p-read : ReadTo (fieldAt false 255 text (budget-read .next)) text (job .numbers .p) false (s .qText ∷ s .cellTexts)
+  p-read = field-complete 255 text _ (s .pText) (job .numbers .p) _ (s .p .number) (s .p .most) (budget-read .left)
 
-  q-read : ReadTo (fieldAt false 255 text (p-read .next)) text (job .q) false (s .cellTexts)
-  q-read = field-complete 255 text _ (s .qText) (job .q) _ (s .q .number) (s .q .most) (p-read .left)
+  q-read : ReadTo (fieldAt false 255 text (p-read .next)) text (job .numbers .q) false (s .cellTexts)
+  q-read = field-complete 255 text _ (s .qText) (job .numbers .q) _ (s .q .number) (s .q .most) (p-read .left)
 
-  head : Head
-  head =
-      record {
-        width = job .width;
-        height = job .height;
-        ceiling = job .ceiling;
-        budget = job .budget;
-        p = job .p;
-        q = job .q;
-        next = q-read .next;
-      }
-
-  head-complete : headOf text ≡ Whole head
-  unfolding headOf head
+  head-complete : headOf text ≡ Whole (job .numbers) (q-read .next)
+  unfolding headOf
   head-complete =
       rw (
         width-read .is,
@@ -188,7 +175,7 @@ module _ (text : List ℕ) (job : Job) (s : Spells text job) where
       )
 
   pub complete : readJob text ≡ some job
-  unfolding readJob head
+  unfolding readJob
   complete =
       rw (
         le-leb (length text) 256 (s .short),

@@ -6,7 +6,7 @@ use mathlib.Core.List.{List, [], _∷_, _++_, map}
 use mathlib.Core.Option.{none, some}
 use lib.IntN.{ℤ, pos, negsuc}
 use lib.ListN.{replicate}
-use Rattle.jobline.specs.Grammar.{Job}
+use Rattle.jobline.specs.Grammar.{Job, jobOf}
 use Rattle.jobline.specs.Scan.{isDigit, run, numberAt, minusAt, signedAt, fieldAt, headOf, endsAt, cellsAt, readJob}
 use Rattle.jobline.specs.Line.{digitsOf, decimal, planLine, refusedLine}
 
@@ -18,7 +18,7 @@ jobText ceiling =
 
 abbrev job : ℤ → Job
 job ceiling =
-    record { width = 2; height = 2; ceiling = ceiling; budget = 7; p = 1; q = 1; cells = 3 ∷ 2 ∷ 1 ∷ 0 ∷ [] }
+    jobOf (record { width = 2; height = 2; ceiling = ceiling; budget = 7; p = 1; q = 1 }) (3 ∷ 2 ∷ 1 ∷ 0 ∷ [])
 
 -- 6, -1, -0, 000000006 are ceilings; ten digits, two minuses and an empty field are not
 pub texts : map readJob

@@ -13,10 +13,10 @@ use borrow.Author.Tests.{leb-true, eqb-true}
 use Rattle.jobline.specs.Numeral.{space, lineFeed, minusSign, Numeral}
 use Rattle.jobline.specs.Grammar.{Job, after, Small, Signed, plain, minus, Smalls, Spells}
 use Rattle.jobline.specs.Grammar.{none as no-cells, more as one-more}
-use Rattle.jobline.specs.Scan.{byteAt, numberAt, minusAt, signedAt, fieldAt, signedValue, behind, nines, headOf, endsAt, prepend, cellsAt, jobOf, withCells, readJob}
+use Rattle.jobline.specs.Scan.{byteAt, numberAt, minusAt, signedAt, fieldAt, signedValue, behind, nines, headOf, endsAt, prepend, cellsAt, withCells, behindHead, readJob}
 use Rattle.jobline.specs.declared.read.NumberRead.{NumberRead}
 use Rattle.jobline.specs.declared.read.NumberRead.the-variants.{Number, Bad}
-use Rattle.jobline.specs.declared.read.Head.{Head}
+use Rattle.jobline.specs.declared.read.Numbers.{Numbers}
 use Rattle.jobline.specs.declared.read.HeadRead.{HeadRead}
 use Rattle.jobline.specs.declared.read.HeadRead.the-variants.{Sound as Whole, Broken}
 use Rattle.jobline.proofs.Runs.{run-digits, run-le}
@@ -99,26 +99,26 @@ onward : {A : Type 0} (P : A → Type 0) (stop : A) (r : NumberRead) (go : ℕ �
 onward P stop Bad go s f = s
 onward P stop (Number v m next) go s f = f v m next refl
 
--- the six fields of a head, and what is left behind them
-record Opened (text : List ℕ) (head : Head) : Type 0 where
+-- the six fields before the cells, and what is left behind them
+record Opened (text : List ℕ) (numbers : Numbers) (next : ℕ) : Type 0 where
   widthText : List ℕ
   heightText : List ℕ
   ceilingText : List ℕ
   budgetText : List ℕ
   pText : List ℕ
   qText : List ℕ
-  width : Small widthText (head .width)
-  height : Small heightText (head .height)
-  ceiling : Signed ceilingText (head .ceiling)
-  budget : Numeral budgetText (head .budget)
-  p : Small pText (head .p)
-  q : Small qText (head .q)
+  width : Small widthText (numbers .width)
+  height : Small heightText (numbers .height)
+  ceiling : Signed ceilingText (numbers .ceiling)
+  budget : Numeral budgetText (numbers .budget)
+  p : Small pText (numbers .p)
+  q : Small qText (numbers .q)
   split : text ≡ widthText
-      ++ (space ∷ heightText ++ (space ∷ ceilingText ++ (space ∷ budgetText ++ (space ∷ pText ++ (space ∷ qText ++ drop (head .next) text)))))
+      ++ (space ∷ heightText ++ (space ∷ ceilingText ++ (space ∷ budgetText ++ (space ∷ pText ++ (space ∷ qText ++ drop next text)))))
 
 abbrev OpenedBy : List ℕ → HeadRead → Type 0
 OpenedBy text Broken = Unit {0}
-OpenedBy text (Whole head) = Opened text head
+OpenedBy text (Whole numbers next) = Opened text numbers next
 
 along : (x : List ℕ) {y z : List ℕ} → y ≡ z → x ++ y ≡ x ++ z
 along x e = ap (λ (l : List ℕ). x ++ l) e
@@ -217,10 +217,10 @@ abbrev SpeltBy : List ℕ → Option Job → Type 0
 SpeltBy text none = Unit {0}
 SpeltBy text (some job) = Spells text job
 
-whole : (text : List ℕ) (head : Head) (found : Option (List ℕ)) → length text ≤ 256 → Opened text head → ClosedBy 32 text (head .next) found
-    → SpeltBy text (jobOf head found)
-whole text head none h o c = tt
-whole text head (some ns) h o c =
+whole : (text : List ℕ) (numbers : Numbers) (next : ℕ) (found : Option (List ℕ)) → length text ≤ 256 → Opened text numbers next
+    → ClosedBy 32 text next found → SpeltBy text (withCells numbers found)
+whole text numbers next none h o c = tt
+whole text numbers next (some ns) h o c =
     record {
       widthText = o .widthText;
       heightText = o .heightText;
@@ -249,9 +249,10 @@ text-sound : (text : List ℕ) → SpeltBy text (readJob text)
 unfolding readJob
 text-sound text = go (leb (length text) 256) refl (headOf text) (head-sound text)
   where
-    go : (t : Bool) → leb (length text) 256 ≡ t → (r : HeadRead) → OpenedBy text r → SpeltBy text (cond t (withCells text r) none)
+    go : (t : Bool) → leb (length text) 256 ≡ t → (r : HeadRead) → OpenedBy text r → SpeltBy text (cond t (behindHead text r) none)
     go true e Broken o = tt
-    go true e (Whole head) o = whole text head (cellsAt 32 text (head .next)) (leb-true (length text) 256 e) o (cells-sound 32 text (head .next))
+    go true e (Whole numbers next) o =
+        whole text numbers next (cellsAt 32 text next) (leb-true (length text) 256 e) o (cells-sound 32 text next)
     go false e r o = tt
 
 pub sound : (text : List ℕ) (job : Job) → readJob text ≡ some job → Spells text job

@@ -7,7 +7,6 @@ use lib.ListN.{take, replicate}
 use Rattle.planner.specs.declared.Answer.{Answer}
 use Rattle.planner.specs.declared.Answer.the-variants.{Planned, Refused}
 use Rattle.planner.specs.Answer.{Call, Left, called, answered, refusalNumber, refusalCell, refusalVisits}
-use Rattle.jobline.specs.declared.read.JobNumbers.{JobNumbers}
 use Rattle.jobline.specs.Grammar.{Job}
 use Rattle.jobline.specs.Line.{planLine, refusedLine}
 
@@ -22,21 +21,9 @@ leftLine l = lineOf (l .answer) (l .moves)
 -- the call that a job makes
 abbrev pub callFor : Job → Call
 callFor job =
-    called (job .width) (job .height) (job .cells) (job .ceiling) (job .budget) (job .p) (job .q) (replicate 120 0) (replicate 484 0)
+    let n = job .numbers in
+    called (n .width) (n .height) (job .cells) (n .ceiling) (n .budget) (n .p) (n .q) (replicate 120 0) (replicate 484 0)
 
 unfoldable pub answerTo : Option Job → List ℕ
 answerTo none = refusedLine 12 0 0
 answerTo (some job) = leftLine (answered (callFor job))
-
--- the job of the numbers that were read, with its cells in front of a lent array
-abbrev pub jobOf : JobNumbers → List ℕ → Job
-jobOf j cells =
-    record {
-      width = j .width;
-      height = j .height;
-      ceiling = j .ceiling;
-      budget = j .budget;
-      p = j .p;
-      q = j .q;
-      cells = take (j .count) cells;
-    }

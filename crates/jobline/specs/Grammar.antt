@@ -6,16 +6,15 @@ use mathlib.Core.List.{List, [], _∷_, _++_}
 use lib.ListN.{length}
 use lib.IntN.{ℤ, pos, negℤ}
 use Rattle.jobline.specs.Numeral.{space, lineFeed, minusSign, Numeral}
+use Rattle.jobline.specs.declared.read.Numbers.{Numbers}
 
--- the numbers of a job
+-- a job: width, height, ceiling, budget, p and q, and then the cells
 pub record Job : Type 0 where
-  pub width : ℕ
-  pub height : ℕ
-  pub ceiling : ℤ
-  pub budget : ℕ
-  pub p : ℕ
-  pub q : ℕ
+  pub numbers : Numbers
   pub cells : List ℕ
+
+abbrev pub jobOf : Numbers → List ℕ → Job
+jobOf numbers cells = record { numbers = numbers; cells = cells }
 
 -- what stands after a field: each further field behind one space, and a line feed at the end
 abbrev pub after : List (List ℕ) → List ℕ
@@ -54,11 +53,11 @@ pub record Spells (text : List ℕ) (job : Job) : Type 0 where
   pub whole : text ≡ line widthText (heightText ∷ ceilingText ∷ budgetText ∷ pText ∷ qText ∷ cellTexts)
   pub short : length text ≤ 256
   -- the numbers that they spell
-  pub width : Small widthText (job .width)
-  pub height : Small heightText (job .height)
-  pub ceiling : Signed ceilingText (job .ceiling)
-  pub budget : Numeral budgetText (job .budget)
-  pub p : Small pText (job .p)
-  pub q : Small qText (job .q)
+  pub width : Small widthText (job .numbers .width)
+  pub height : Small heightText (job .numbers .height)
+  pub ceiling : Signed ceilingText (job .numbers .ceiling)
+  pub budget : Numeral budgetText (job .numbers .budget)
+  pub p : Small pText (job .numbers .p)
+  pub q : Small qText (job .numbers .q)
   pub cells : Smalls cellTexts (job .cells)
   pub count : length (job .cells) ≤ 32

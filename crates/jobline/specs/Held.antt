@@ -15,17 +15,7 @@ use Rattle.jobline.specs.declared.read.CellCount.the-variants.{Cells, Un
 -- the answer for what was read
 abbrev pub answerOf : Option Job → Reading
 answerOf none = Malformed
-answerOf (some job) =
-    JobRead
-    (record {
-      width = job .width;
-      height = job .height;
-      ceiling = job .ceiling;
-      budget = job .budget;
-      p = job .p;
-      q = job .q;
-      count = length (job .cells);
-    })
+answerOf (some job) = JobRead (job .numbers) (length (job .cells))
 
 -- the lent cells afterwards: the job's cells stored from the first place on; as found where there is no job
 abbrev pub cellsOf : Option Job → List ℕ → List ℕ

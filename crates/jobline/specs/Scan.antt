@@ -9,10 +9,10 @@ use lib.ListN.{length, getD, take, drop}
 use lib.Seq.{slice}
 use lib.IntN.{ℤ, pos, negℤ}
 use Rattle.jobline.specs.Numeral.{space, lineFeed, minusSign, Digits, valueOf}
-use Rattle.jobline.specs.Grammar.{Job}
+use Rattle.jobline.specs.Grammar.{Job, jobOf}
 use Rattle.jobline.specs.declared.read.NumberRead.{NumberRead}
 use Rattle.jobline.specs.declared.read.NumberRead.the-variants.{Number, Bad}
-use Rattle.jobline.specs.declared.read.Head.{Head}
+use Rattle.jobline.specs.declared.read.Numbers.{Numbers}
 use Rattle.jobline.specs.declared.read.HeadRead.{HeadRead}
 use Rattle.jobline.specs.declared.read.HeadRead.the-variants.{Sound, Broken}
 
@@ -87,8 +87,8 @@ headOf text =
       budget = budget;
       p = p;
       q = q;
-      next = next;
     })
+    next
 
 -- the line feed at a place is the text's last byte
 unfoldable pub endsAt : List ℕ → ℕ → Bool
@@ -104,24 +104,14 @@ cellsAt zero text at = cond (endsAt text at) (some []) none
 cellsAt (suc k) text at =
     cond (endsAt text at) (some []) (behind none (fieldAt false 255 text at) λ v _ next. prepend v (cellsAt k text next))
 
-abbrev pub jobOf : Head → Option (List ℕ) → Option Job
-jobOf head none = none
-jobOf head (some cells) =
-    some
-    (record {
-      width = head .width;
-      height = head .height;
-      ceiling = head .ceiling;
-      budget = head .budget;
-      p = head .p;
-      q = head .q;
-      cells = cells;
-    })
+abbrev pub withCells : Numbers → Option (List ℕ) → Option Job
+withCells numbers none = none
+withCells numbers (some cells) = some (jobOf numbers cells)
 
-abbrev pub withCells : List ℕ → HeadRead → Option Job
-withCells text Broken = none
-withCells text (Sound head) = jobOf head (cellsAt 32 text (head .next))
+abbrev pub behindHead : List ℕ → HeadRead → Option Job
+behindHead text Broken = none
+behindHead text (Sound numbers next) = withCells numbers (cellsAt 32 text next)
 
 -- the job that a text spells, or none
 unfoldable pub readJob : List ℕ → Option Job
-readJob text = cond (leb (length text) 256) (withCells text (headOf text)) none
+readJob text = cond (leb (length text) 256) (behindHead text (headOf text)) none

@@ -1,5 +1,5 @@
 // A job's text to its answer line: the text is read, the job is planned, and the answer's line is written.
-use crate::read::JobNumbers;
+use crate::read::Numbers;
 use crate::read::Reading;
 use crate::read::read_job;
 use crate::write::write_plan;
@@ -16,7 +16,8 @@ ghost use lib.ListN.{length};
 ghost use Rattle.planner.specs.Answer.{cell as Answer·cell, planLength};
 ghost use Rattle.jobline.specs.Scan.{readJob};
 ghost use Rattle.jobline.specs.Put.{LineAnswered};
-ghost use Rattle.jobline.specs.Answer.{lineOf, answerTo, jobOf};
+ghost use Rattle.jobline.specs.Grammar.{jobOf};
+ghost use Rattle.jobline.specs.Answer.{lineOf, answerTo};
 
 // Puts the line that the text is answered with at the start of `out`, and says how long it is; 0 where `out` is too short for it.
 pub fn answer_line(text: &[u8], out: &mut [u8]) -> usize
@@ -25,26 +26,24 @@ pub fn answer_line(text: &[u8], out: &mut [u8]) -> usize
     let mut cells = [0u8; 32];
     match read_job(text, &mut cells) {
         Reading::Malformed => write_refusal(12, 0, 0, out),
-        Reading::Job(job) => answer_job(job, &cells, out),
+        Reading::Job(numbers, count) => answer_job(numbers, &cells[..count], out),
     }
 }
 
 // The program keeps a table of 484 numbers and 120 move bytes, both zeroed first.
-fn answer_job(job: JobNumbers, cells: &[u8], out: &mut [u8]) -> usize
-    requires { ⌜ job .count ≤ length (now cells) ⌝ }
-    ensures { λ r. ⌜ LineAnswered (answerTo (some (jobOf job (now (cells .entry))))) (now (out .entry)) r (now (out .exit)) ⌝ }
+fn answer_job(numbers: Numbers, cells: &[u8], out: &mut [u8]) -> usize
+    ensures { λ r. ⌜ LineAnswered (answerTo (some (jobOf numbers (now (cells .entry))))) (now (out .entry)) r (now (out .exit)) ⌝ }
 {
-    let count = job.count;
     let mut moves = [0u8; 120];
     let mut table = [0u16; 484];
     let answer = plan(
-        job.width,
-        job.height,
-        &cells[..count],
-        job.ceiling,
-        job.budget,
-        job.p,
-        job.q,
+        numbers.width,
+        numbers.height,
+        cells,
+        numbers.ceiling,
+        numbers.budget,
+        numbers.p,
+        numbers.q,
         &mut moves,
         &mut table,
     );

@@ -9,15 +9,14 @@ ghost use Rattle.jobline.specs.Scan.{byteAt, run, FewDigits, numberAt, m
 ghost use Rattle.jobline.specs.Scan.{nines, headOf, endsAt, cellsAt, readJob};
 ghost use Rattle.jobline.specs.Held.{Counted, Answers};
 
-// A job's numbers but for the cells, of which it has the count.
-pub struct JobNumbers {
+// The six numbers of a job before its cells.
+pub struct Numbers {
     pub width: u32,
     pub height: u32,
     pub ceiling: i32,
     pub budget: u32,
     pub p: u32,
     pub q: u32,
-    pub count: usize,
 }
 
 // Nine nines: the largest number of nine digits.
@@ -25,7 +24,8 @@ const NINES: u32 = 999_999_999;
 
 // What a text is read to.
 pub enum Reading {
-    Job(JobNumbers),
+    // the numbers before the cells, and how many cells there are
+    Job(Numbers, usize),
     // 12: the text is not of the grammar
     Malformed,
 }
@@ -37,19 +37,10 @@ enum NumberRead {
     Bad,
 }
 
-// The six numbers before the cells, and the place behind them.
-struct Head {
-    width: u32,
-    height: u32,
-    ceiling: i32,
-    budget: u32,
-    p: u32,
-    q: u32,
-    next: usize,
-}
-
+// What a text begins with.
 enum HeadRead {
-    Sound(Head),
+    // the numbers before the cells, and the place behind them
+    Sound(Numbers, usize),
     Broken,
 }
 
@@ -177,15 +168,15 @@ fn head_of(text: &[u8]) -> HeadRead
         return HeadRead::Broken;
     };
     let ceiling = with_sign(size, minus);
-    HeadRead::Sound(Head {
+    let numbers = Numbers {
         width,
         height,
         ceiling,
         budget,
         p,
         q,
-        next,
-    })
+    };
+    HeadRead::Sound(numbers, next)
 }
 
 // The text ends with the line feed at a place.
@@ -228,22 +219,13 @@ pub fn read_job(text: &[u8], cells: &mut [u8; 32]) -> Reading
     if 256 < text.len() {
         return Reading::Malformed;
     }
-    let HeadRead::Sound(head) = head_of(text) else {
+    let HeadRead::Sound(numbers, next) = head_of(text) else {
         return Reading::Malformed;
     };
-    let next = head.next;
     let mut kept = *cells;
     let CellCount::Cells(count) = cells_at(text, next, &mut kept) else {
         return Reading::Malformed;
     };
     *cells = kept;
-    Reading::Job(JobNumbers {
-        width: head.width,
-        height: head.height,
-        ceiling: head.ceiling,
-        budget: head.budget,
-        p: head.p,
-        q: head.q,
-        count,
-    })
+    Reading::Job(numbers, count)
 }

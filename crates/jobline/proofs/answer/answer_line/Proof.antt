@@ -1,7 +1,11 @@
--- `jobline::answer::answer_line` meets its contract: a text is read to its job, and any other is refused. Assumes nothing.
+-- `answer::answer_line` meets its contract: a text is read to its job, and any other is refused.
+-- Assumes nothing.
+use Prim.Native.Nat.{_≤_}
 use borrow.Author.Needs.{needs}
 use mathlib.Core.Path.{refl, sym}
-use Rattle.jobline.proofs.Answering.{kept-length, job-count, malformed-line, text-line}
+use lib.ListN.{length}
+use lib.Seq.{length-take-le}
+use Rattle.jobline.proofs.Answering.{job-count, malformed-line, text-line}
 use Rattle.jobline.proofs.answer.answer_line.Statement.{statement}
 use Rattle.jobline.proofs.answer.answer_line.Tie as tie
 
@@ -14,29 +18,39 @@ enum-told c = search needs
 write-refusal-requires : tie.Need-write-refusal-requires
 write-refusal-requires c κs = search needs
 
-enum-known-job : tie.Need-enum-known-job
-enum-known-job c = search needs
+enum-known-numbers : tie.Need-enum-known-numbers
+enum-known-numbers c = search needs
+
+-- as many cells were stored as were counted
+few : (c : tie.After-numbers) → c .numbers .given .0 .1 .0 ≤ length (c .before .before .read-job .last .1 .0)
+few c = job-count _ _ _ _ _ _ (c .before .before .read-job .ensures) (c .numbers .given .1) refl
+
+array-share-prefix-cells : tie.Need-array-share-prefix-cells
+array-share-prefix-cells c = few (c .before)
 
 slice-aggregate-answer-job : tie.Need-slice-aggregate-answer-job
-slice-aggregate-answer-job c = sym (kept-length _ _ _ _ (c .before .before .before .before .read-job .ensures))
+slice-aggregate-answer-job c = sym (length-take-le _ _ (few (c .before .before)))
 
 answer-job-requires : tie.Need-answer-job-requires
-answer-job-requires c κs =
-    job-count _ _ _ _ _ (c .before .before .before .before .before .read-job .ensures) (c .before .before .before .job .given .1) refl
+answer-job-requires c κs = search needs
 
 same-length : tie.Need-same-length
 same-length c = search needs
 
 returns : tie.Need-returns
 returns c =
-    malformed-line _ _ _ _ _ _ _ (c .before .before .before .before .before .before .read-job .ensures) (c .before .before .before .before .enum-told .given .1) (c .before .before .write-refusal .ensures)
+    let written = c .before .before in
+    let told = written .before .before in
+    malformed-line _ _ _ _ _ _ _ (told .before .before .read-job .ensures) (told .enum-told .given .1) (written .write-refusal .ensures)
 
 same-length-2 : tie.Need-same-length-2
 same-length-2 c = search needs
 
 returns-2 : tie.Need-returns-2
 returns-2 c =
-    text-line _ _ _ _ _ _ _ _ (c .before .before .before .before .before .before .before .before .read-job .ensures) (c .before .before .before .before .before .before .job .given .1) refl (c .before .before .answer-job .ensures)
+    let answered = c .before .before in
+    let told = answered .before .before .before .before in
+    text-line _ _ _ _ _ _ (told .before .before .read-job .ensures) (told .numbers .given .1) refl _ _ _ (answered .answer-job .ensures)
 
 pub answer-line-spec : {M : Type 1} → statement M
 answer-line-spec =
@@ -45,7 +59,8 @@ answer-line-spec =
     read-job-requires
     enum-told
     write-refusal-requires
-    enum-known-job
+    enum-known-numbers
+    array-share-prefix-cells
     slice-aggregate-answer-job
     answer-job-requires
     same-length

@@ -1,4 +1,5 @@
--- `jobline::answer::write_answer` meets its contract: each arm writes the line of its answer. Assumes nothing.
+-- `answer::write_answer` meets its contract: each arm writes the line of its answer.
+-- Assumes nothing.
 use borrow.Author.Needs.{needs}
 use mathlib.Core.Path.{sym}
 use lib.Seq.{length-take-le}
@@ -11,7 +12,9 @@ enum-known-answer c = search needs
 
 slice-aggregate-write-plan : tie.Need-slice-aggregate-write-plan
 slice-aggregate-write-plan c =
-    sym (length-take-le _ _ (plan-fits _ _ _ (c .before .before .answer .given .1) (c .before .before .before .before .before .before .pre .0)))
+    let known = c .before .before in
+    let start = known .before .before .before .before in
+    sym (length-take-le _ _ (plan-fits _ _ _ (known .answer .given .1) (start .pre .0)))
 
 write-plan-requires : tie.Need-write-plan-requires
 write-plan-requires c κs = search needs
@@ -39,15 +42,21 @@ same-length c = search needs
 
 returns : tie.Need-returns
 returns c =
-    plan-line _ _ _ _ _ _ (c .before .before .before .before .before .before .answer .given .1) (c .before .before .write-plan .ensures)
+    let written = c .before .before in
+    let known = written .before .before .before .before in
+    plan-line _ _ _ _ _ _ (known .answer .given .1) (written .write-plan .ensures)
 
 same-length-2 : tie.Need-same-length-2
 same-length-2 c = search needs
 
 returns-2 : tie.Need-returns-2
 returns-2 c =
-    refusal-line _ _ _ _ _ _ _ _ _ (c .before .before .before .before .before .before .before .enum-told .given .1) (c .before .before .before .before .before .before .number .ensures) (c .before .before .before .before .before .cell .ensures) (c .before .before .before .before .visits .ensures)
-    (c .before .before .write-refusal .ensures)
+    let written = c .before .before in
+    let visited = written .before .before in
+    let celled = visited .before in
+    let numbered = celled .before in
+    refusal-line _ _ _ _ _ _ _ _ _ (numbered .before .enum-told .given .1) (numbered .number .ensures) (celled .cell .ensures)
+    (visited .visits .ensures) (written .write-refusal .ensures)
 
 pub write-answer-spec : {M : Type 1} → statement M
 write-answer-spec =

@@ -9,17 +9,14 @@ use mathlib.Core.Option.{Option, none, some}
 use lib.ListN.{length}
 use lib.Seq.{sets}
 use borrow.Author.Tests.{le-leb, lt-leb}
-use mir.Syntax.{w32}
-use mir.Val.{SFits}
-use mir.ValLaws.{toZ-ofZ}
-use Rattle.jobline.specs.Scan.{headOf, cellsAt, withCells, readJob}
+use Rattle.jobline.specs.Scan.{headOf, cellsAt, withCells, behindHead, readJob}
 use Rattle.jobline.specs.Held.{Answers, Counted}
 use Rattle.jobline.specs.declared.read.Reading.{Reading}
 use Rattle.jobline.specs.declared.read.Reading.the-variants.{Job as JobRead, Malformed}
 use Rattle.jobline.specs.declared.read.CellCount.the-variants.{Cells, Uncounted}
 use Rattle.jobline.specs.declared.read.HeadRead.{HeadRead}
 use Rattle.jobline.specs.declared.read.HeadRead.the-variants.{Sound, Broken}
-use Rattle.jobline.specs.declared.read.Head.{Head}
+use Rattle.jobline.specs.declared.read.Numbers.{Numbers}
 use Rattle.jobline.proofs.read.read_job.Statement.{statement}
 use Rattle.jobline.proofs.read.read_job.Tie as tie
 
@@ -30,7 +27,7 @@ too-long : (text : List ℕ) → 256 < length text → readJob text ≡ none
 unfolding readJob
 too-long text h = rw (lt-leb (length text) 256 h)
 
-read-is : (text : List ℕ) (head : HeadRead) → length text ≤ 256 → headOf text ≡ head → readJob text ≡ withCells text head
+read-is : (text : List ℕ) (head : HeadRead) → length text ≤ 256 → headOf text ≡ head → readJob text ≡ behindHead text head
 unfolding readJob
 read-is text head h e = rw (le-leb (length text) 256 h, e)
 
@@ -49,32 +46,23 @@ counted : (found : Option (List ℕ)) (old new : List ℕ) (count : ℕ) → Cou
 counted none old new count h = let z : _≡_ {A = ℕ} 0 1 = cc in absurd (omega arith)
 counted (some ns) old new count h = let e = h .0 in record { ns = ns; is = refl; size = cc; front = h .1 }
 
--- the answer that the code puts together
-abbrev made : Head → ℕ → Reading
-made head count =
-    JobRead
-    (record {
-      width = head .width;
-      height = head .height;
-      ceiling = head .ceiling;
-      budget = head .budget;
-      p = head .p;
-      q = head .q;
-      count = count;
-    })
-
-answered : (text old new : List ℕ) (head : Head) (count : ℕ) → readJob text ≡ withCells text (Sound head)
-    → Stored (cellsAt 32 text (head .next)) old count new → Answers (readJob text) old (made head count) new
-answered text old new head count e s =
+answered : (text old new : List ℕ) (n : Numbers) (next count : ℕ) → readJob text ≡ behindHead text (Sound n next)
+    → Stored (cellsAt 32 text next) old count new → Answers (readJob text) old (JobRead n count) new
+answered text old new n next count e s =
     rw (e, s .is, s .size) (record { numbers = refl; cells = s .front })
 
-no-cells : (text : List ℕ) (head : Head) (old new : List ℕ) → readJob text ≡ withCells text (Sound head)
-    → Counted (cellsAt 32 text (head .next)) old Uncounted new → Answers (readJob text) old Malformed old
-no-cells text head old new e h = refused text old (e ∙ rw (uncounted (cellsAt 32 text (head .next)) old new h))
+no-cells : (text : List ℕ) (n : Numbers) (next : ℕ) (old new : List ℕ) → readJob text ≡ behindHead text (Sound n next)
+    → Counted (cellsAt 32 text next) old Uncounted new → Answers (readJob text) old Malformed old
+no-cells text n next old new e h = refused text old (e ∙ rw (uncounted (cellsAt 32 text next) old new h))
 
-head-is : (h : tie.After-head) → let text = h .before .before .before .before .before .args .text .now in readJob text ≡ withCells text (Sound (h .head .given .0 .0))
+-- where the numbers are known: the text that they were read from, and what was read so far
+abbrev text-of : tie.After-numbers → List ℕ
+text-of h = h .before .before .before .before .before .args .text .now
+
+head-is : (h : tie.After-numbers) → readJob (text-of h) ≡ behindHead (text-of h) (Sound (h .numbers .given .0 .0) (h .numbers .given .0 .1 .0))
 head-is h =
-    read-is _ (Sound (h .head .given .0 .0)) (h .before .before .before .if1 .left) (sym (h .before .before .head-of .ensures) ∙ h .head .given .1)
+    let tested = h .before .before .before in
+    read-is _ _ (tested .if1 .left) (sym (h .before .before .head-of .ensures) ∙ h .numbers .given .1)
 
 returns : tie.Need-returns
 returns c = refused _ _ (too-long _ (c .if1 .taken))
@@ -82,16 +70,16 @@ returns c = refused _ _ (too-long _ (c .if1 .taken))
 head-of-requires : tie.Need-head-of-requires
 head-of-requires c κs = search needs
 
-enum-known-head : tie.Need-enum-known-head
-enum-known-head c = search needs
+enum-known-numbers : tie.Need-enum-known-numbers
+enum-known-numbers c = search needs
 
 enum-told : tie.Need-enum-told
 enum-told c = search needs
 
 returns-2 : tie.Need-returns-2
 returns-2 c =
-    refused _ _
-    (read-is _ Broken (c .before .before .before .if1 .left) (sym (c .before .before .head-of .ensures) ∙ c .enum-told .given .1))
+    let tested = c .before .before .before in
+    refused _ _ (read-is _ Broken (tested .if1 .left) (sym (c .before .before .head-of .ensures) ∙ c .enum-told .given .1))
 
 cells-at-requires : tie.Need-cells-at-requires
 cells-at-requires c κs = search needs
@@ -104,16 +92,15 @@ enum-told-2 c = search needs
 
 returns-3 : tie.Need-returns-3
 returns-3 c =
-    let h = c .before .before .before .before .before .before in
-    no-cells _ (h .head .given .0 .0) _ _ (head-is h) (rw (c .enum-told2 .given .1) at (c .before .before .cells-at .ensures))
+    let counted = c .before .before in
+    let head = counted .before .before .before .before in
+    no-cells _ _ _ _ _ (head-is head) (rw (c .enum-told2 .given .1) at (counted .cells-at .ensures))
 
 returns-4 : tie.Need-returns-4
 returns-4 c =
-    let h = c .before .before .before .before .before .before .before .before in
-    let fits : SFits w32 (h .head .given .0 .0 .ceiling) = record { sfits = c .struct-told .given .1 .1 .0 .1 } in
-    rw (toZ-ofZ w32 (h .head .given .0 .0 .ceiling) fits)
-    (answered _ _ _ (h .head .given .0 .0) _ (head-is h)
-    (counted _ _ _ _ (rw (c .before .before .count .given .1) at (c .before .before .before .before .cells-at .ensures))))
+    let called = c .before .before .before in
+    let head = called .before .before .before .before in
+    answered _ _ _ _ _ _ (head-is head) (counted _ _ _ _ (rw (c .before .count .given .1) at (called .cells-at .ensures)))
 
 pub read-job-spec : {M : Type 1} → statement M
 read-job-spec =
@@ -121,7 +108,7 @@ read-job-spec =
     (tie.spec
     returns
     head-of-requires
-    enum-known-head
+    enum-known-numbers
     enum-told
     returns-2
     cells-at-requires
