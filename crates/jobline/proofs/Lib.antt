@@ -1,15 +1,5 @@
--- The laws that the functions' proofs cite, lowest first, and then what is promised of the definitions: `Promised` is the list to read.
--- Assumes nothing.
-pub mod Runs
-pub mod Places
-pub mod Fields
-pub mod Stores
-pub mod Cells
-pub mod Decimal
-pub mod Puts
-pub mod Lines
-pub mod Sound
-pub mod Complete
-pub mod Promised
-pub mod Answering
-pub mod Examples
+-- `theory` is about the definitions alone, `code` is what the proofs of the functions cite besides, and `Promises` is the list to read.
+-- The proof of each function is in the folder of its name. Assumes nothing.
+pub mod theory
+pub mod code
+pub mod Promises

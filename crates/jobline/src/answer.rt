@@ -9,7 +9,6 @@ use planner::call::plan;
 use planner::fields::cell;
 use planner::fields::number;
 use planner::fields::visits;
-ghost use mathlib.Core.Path.{_≡_};
 ghost use mathlib.Core.Option.{some};
 ghost use Prim.Native.Nat.{_≤_};
 ghost use lib.ListN.{length};

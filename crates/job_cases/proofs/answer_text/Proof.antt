@@ -2,7 +2,7 @@
 use borrow.Author.Needs.{needs}
 use mathlib.Core.Path.{sym}
 use lib.Seq.{length-take-le}
-use Rattle.jobline.proofs.Promised.{line-within}
+use Rattle.jobline.proofs.Promises.{line-within}
 use Rattle.job_cases.proofs.answer_text.Statement.{statement}
 use Rattle.job_cases.proofs.answer_text.Tie as tie
 

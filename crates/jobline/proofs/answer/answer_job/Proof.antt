@@ -4,7 +4,7 @@ use borrow.Author.Needs.{needs}
 use denote.Ref.{now}
 use mir.Syntax.{w32}
 use mir.ValLaws.{toZ-ofZ}
-use Rattle.jobline.proofs.Answering.{small-enough, job-line}
+use Rattle.jobline.proofs.code.Answering.{small-enough, job-line}
 use Rattle.jobline.proofs.answer.answer_job.Statement.{statement}
 use Rattle.jobline.proofs.answer.answer_job.Tie as tie
 

@@ -5,7 +5,7 @@ use borrow.Author.Needs.{needs}
 use mathlib.Core.Path.{refl, sym}
 use lib.ListN.{length}
 use lib.Seq.{length-take-le}
-use Rattle.jobline.proofs.Answering.{job-count, malformed-line, text-line}
+use Rattle.jobline.proofs.code.Answering.{job-count, malformed-line, text-line}
 use Rattle.jobline.proofs.answer.answer_line.Statement.{statement}
 use Rattle.jobline.proofs.answer.answer_line.Tie as tie
 

@@ -3,7 +3,7 @@
 use borrow.Author.Needs.{needs}
 use mathlib.Core.Path.{sym}
 use lib.Seq.{length-take-le}
-use Rattle.jobline.proofs.Answering.{plan-fits, plan-line, refusal-line}
+use Rattle.jobline.proofs.code.Answering.{plan-fits, plan-line, refusal-line}
 use Rattle.jobline.proofs.answer.write_answer.Statement.{statement}
 use Rattle.jobline.proofs.answer.write_answer.Tie as tie
 

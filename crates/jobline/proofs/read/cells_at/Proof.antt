@@ -5,8 +5,9 @@ use borrow.Author.Needs.{needs}
 use native.Mathlib.Omega.{arith}
 use mathlib.Core.Path.{sym, _∙_}
 use mathlib.Core.Bool.{false}
-use Rattle.jobline.proofs.Fields.{field-small}
-use Rattle.jobline.proofs.Cells.{Taken, taken-none, taken-more, taken-end, taken-bad, cells-full, cells-bad}
+use Rattle.jobline.proofs.theory.Fields.{field-small}
+use Rattle.jobline.proofs.theory.Cells.{cells-full, cells-bad}
+use Rattle.jobline.proofs.code.Taken.{Taken, taken-none, taken-more, taken-end, taken-bad}
 use Rattle.jobline.proofs.read.cells_at.Statement.{statement}
 use Rattle.jobline.proofs.read.cells_at.Tie as tie
 

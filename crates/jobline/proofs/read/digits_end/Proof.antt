@@ -8,7 +8,7 @@ use mathlib.Core.List.{List}
 use lib.ListN.{length, drop, drop-of-length-le}
 use lib.Seq.{drop-cons}
 use Rattle.jobline.specs.Scan.{run}
-use Rattle.jobline.proofs.Runs.{run-digit, run-low, run-high, run-nil}
+use Rattle.jobline.proofs.theory.Runs.{run-digit, run-low, run-high, run-nil}
 use Rattle.jobline.proofs.read.digits_end.Statement.{statement}
 use Rattle.jobline.proofs.read.digits_end.Tie as tie
 

@@ -5,7 +5,7 @@ use native.Mathlib.Omega.{arith}
 use mathlib.Core.Path.{sym, _∙_}
 use borrow.Author.Tests.{ne-eqb}
 use Rattle.jobline.specs.Scan.{endsAt}
-use Rattle.jobline.proofs.Places.{inside}
+use Rattle.jobline.proofs.theory.Places.{inside}
 use Rattle.jobline.proofs.read.ends_at.Statement.{statement}
 use Rattle.jobline.proofs.read.ends_at.Tie as tie
 

@@ -3,8 +3,8 @@
 use borrow.Author.Needs.{needs}
 use native.Mathlib.Omega.{arith}
 use mathlib.Core.Path.{sym, _∙_}
-use Rattle.jobline.proofs.Places.{inside}
-use Rattle.jobline.proofs.Fields.{minus-inside, field-none, field-minus, field-plain}
+use Rattle.jobline.proofs.theory.Places.{inside}
+use Rattle.jobline.proofs.theory.Fields.{minus-inside, field-none, field-minus, field-plain}
 use Rattle.jobline.proofs.read.field_at.Statement.{statement}
 use Rattle.jobline.proofs.read.field_at.Tie as tie
 

@@ -9,7 +9,7 @@ use mir.Syntax.{w32}
 use mir.ValLaws.{toZ-ofZ}
 use Rattle.jobline.specs.Scan.{numberAt, fieldAt, nines, headOf}
 use Rattle.jobline.specs.declared.read.NumberRead.{NumberRead}
-use Rattle.jobline.proofs.Fields.{field-small}
+use Rattle.jobline.proofs.theory.Fields.{field-small}
 use Rattle.jobline.proofs.read.head_of.Statement.{statement}
 use Rattle.jobline.proofs.read.head_of.Tie as tie
 

@@ -9,9 +9,9 @@ use lib.ListN.{drop, length-drop}
 use lib.Seq.{slice}
 use Rattle.jobline.specs.Numeral.{valueOf}
 use Rattle.jobline.specs.Scan.{FewDigits}
-use Rattle.jobline.proofs.Runs.{run-digits, run-le}
-use Rattle.jobline.proofs.Places.{slice-front}
-use Rattle.jobline.proofs.Fields.{count, worth, number-none, number-long, number-large, number-is}
+use Rattle.jobline.proofs.theory.Runs.{run-digits, run-le}
+use Rattle.jobline.proofs.theory.Places.{slice-front}
+use Rattle.jobline.proofs.theory.Fields.{count, worth, number-none, number-long, number-large, number-is}
 use Rattle.jobline.proofs.read.number_at.Statement.{statement}
 use Rattle.jobline.proofs.read.number_at.Tie as tie
 

@@ -9,9 +9,8 @@ use mathlib.Core.Option.{Option, none, some}
 use lib.ListN.{length}
 use lib.Seq.{sets}
 use borrow.Author.Tests.{le-leb, lt-leb}
-use Rattle.jobline.specs.Scan.{headOf, cellsAt, withCells, behindHead, readJob}
+use Rattle.jobline.specs.Scan.{headOf, cellsAt, behindHead, readJob}
 use Rattle.jobline.specs.Held.{Answers, Counted}
-use Rattle.jobline.specs.declared.read.Reading.{Reading}
 use Rattle.jobline.specs.declared.read.Reading.the-variants.{Job as JobRead, Malformed}
 use Rattle.jobline.specs.declared.read.CellCount.the-variants.{Cells, Uncounted}
 use Rattle.jobline.specs.declared.read.HeadRead.{HeadRead}

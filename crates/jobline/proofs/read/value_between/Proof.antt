@@ -9,7 +9,7 @@ use mathlib.Core.List.{List}
 use lib.ListN.{length, getD}
 use lib.Seq.{slice, slice-cons, slice-empty}
 use Rattle.jobline.specs.Numeral.{Digit, Digits, valueFrom, valueOf}
-use Rattle.jobline.proofs.Runs.{value-step, value-bound}
+use Rattle.jobline.proofs.theory.Runs.{value-step, value-bound}
 use Rattle.jobline.proofs.read.value_between.Statement.{statement}
 use Rattle.jobline.proofs.read.value_between.Tie as tie
 

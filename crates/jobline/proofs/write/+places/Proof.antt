@@ -6,7 +6,7 @@ use mathlib.Core.Path.{ap, sym, _∙_}
 use lib.ListN.{length}
 use borrow.Fn.Kinds.{In}
 use borrow.Fn.PlainCycle.{Measures, is, falls, and}
-use Rattle.jobline.proofs.Decimal.{decimal-small, length-more, decimal-short}
+use Rattle.jobline.proofs.theory.Decimal.{decimal-small, length-more, decimal-short}
 use Rattle.jobline.proofs.write.places.Reads as places
 use Rattle.jobline.proofs.write.places.Kinds as places-kinds
 use Rattle.jobline.proofs.write.+places.Lts-places as places-lts

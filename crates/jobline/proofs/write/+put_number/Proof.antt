@@ -4,8 +4,8 @@ use Prim.Native.Nat.{ℕ, _<_}
 use native.Mathlib.Omega.{arith}
 use mathlib.Core.Path.{ap}
 use lib.ListN.{length}
-use Rattle.jobline.proofs.Decimal.{decimal-small, decimal-more, length-more}
-use Rattle.jobline.proofs.Puts.{put-then, put-length}
+use Rattle.jobline.proofs.theory.Decimal.{decimal-small, decimal-more, length-more}
+use Rattle.jobline.proofs.code.Puts.{put-then, put-length}
 use borrow.Fn.Kinds.{In}
 use borrow.Fn.PlainCycle.{Measures, is, falls, and}
 use Rattle.jobline.proofs.write.put_number.Reads as put-number

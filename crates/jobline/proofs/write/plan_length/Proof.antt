@@ -5,8 +5,8 @@ use borrow.Author.Needs.{needs}
 use native.Mathlib.Omega.{arith}
 use lib.ListN.{length}
 use Rattle.jobline.specs.Line.{decimal}
-use Rattle.jobline.proofs.Lines.{plan-length, letters-length}
-use Rattle.jobline.proofs.Decimal.{decimal-length}
+use Rattle.jobline.proofs.theory.Lines.{plan-length, letters-length}
+use Rattle.jobline.proofs.theory.Decimal.{decimal-length}
 use Rattle.jobline.proofs.write.plan_length.Statement.{statement}
 use Rattle.jobline.proofs.write.plan_length.Tie as tie
 

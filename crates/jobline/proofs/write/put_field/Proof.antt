@@ -1,7 +1,7 @@
 -- `write::put_field` meets its contract: a space and then a number.
 -- Assumes nothing.
 use borrow.Author.Needs.{needs}
-use Rattle.jobline.proofs.Puts.{put-then}
+use Rattle.jobline.proofs.code.Puts.{put-then}
 use Rattle.jobline.proofs.write.put_field.Statement.{statement}
 use Rattle.jobline.proofs.write.put_field.Tie as tie
 

@@ -8,8 +8,8 @@ use mathlib.Core.List.{List, [], _∷_}
 use lib.ListN.{length}
 use mathlib.Core.List.{map}
 use Rattle.jobline.specs.Line.{letter, letters}
-use Rattle.jobline.proofs.Lines.{letters-some}
-use Rattle.jobline.proofs.Puts.{put-then, put-length}
+use Rattle.jobline.proofs.theory.Lines.{letters-some}
+use Rattle.jobline.proofs.code.Puts.{put-then, put-length}
 use Rattle.jobline.proofs.write.put_letters.Statement.{statement}
 use Rattle.jobline.proofs.write.put_letters.Tie as tie
 

@@ -6,7 +6,7 @@ use mathlib.Core.Path.{_≡_}
 use mathlib.Core.List.{List, map}
 use lib.ListN.{length, getD, set, length-map, List·getD-map}
 use Rattle.jobline.specs.Line.{letter}
-use Rattle.jobline.proofs.Puts.{Stored, stored-none, stored-more, stored-all}
+use Rattle.jobline.proofs.code.Puts.{Stored, stored-none, stored-more, stored-all}
 use Rattle.jobline.proofs.write.put_moves.Statement.{statement}
 use Rattle.jobline.proofs.write.put_moves.Tie as tie
 

@@ -2,8 +2,8 @@
 -- Assumes nothing.
 use borrow.Author.Needs.{needs}
 use native.Mathlib.Omega.{arith}
-use Rattle.jobline.proofs.Lines.{opening-length}
-use Rattle.jobline.proofs.Puts.{put-then, put-length}
+use Rattle.jobline.proofs.theory.Lines.{opening-length}
+use Rattle.jobline.proofs.code.Puts.{put-then, put-length}
 use Rattle.jobline.proofs.write.put_opening.Statement.{statement}
 use Rattle.jobline.proofs.write.put_opening.Tie as tie
 

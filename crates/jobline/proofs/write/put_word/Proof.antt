@@ -3,7 +3,7 @@
 use Prim.Native.Nat.{_-_}
 use native.Mathlib.Omega.{arith}
 use lib.ListN.{length}
-use Rattle.jobline.proofs.Puts.{Stored, stored-none, stored-more, stored-all}
+use Rattle.jobline.proofs.code.Puts.{Stored, stored-none, stored-more, stored-all}
 use Rattle.jobline.proofs.write.put_word.Statement.{statement}
 use Rattle.jobline.proofs.write.put_word.Tie as tie
 

@@ -7,8 +7,8 @@ use lib.ListN.{length}
 use mir.Syntax.{w32}
 use mir.Val.{Fits}
 use Rattle.jobline.specs.Line.{decimal}
-use Rattle.jobline.proofs.Lines.{refused-length}
-use Rattle.jobline.proofs.Decimal.{decimal-length}
+use Rattle.jobline.proofs.theory.Lines.{refused-length}
+use Rattle.jobline.proofs.theory.Decimal.{decimal-length}
 use Rattle.jobline.proofs.write.refusal_length.Statement.{statement}
 use Rattle.jobline.proofs.write.refusal_length.Tie as tie
 

@@ -6,8 +6,8 @@ use native.Mathlib.Omega.{arith}
 use mathlib.Core.Path.{ap}
 use lib.ListN.{length, length-append}
 use Rattle.jobline.specs.Line.{planWord, planLine}
-use Rattle.jobline.proofs.Lines.{plan-pieces, plan-length, opening-length}
-use Rattle.jobline.proofs.Puts.{put-then, put-length, line-put, line-refused}
+use Rattle.jobline.proofs.theory.Lines.{plan-pieces, plan-length, opening-length}
+use Rattle.jobline.proofs.code.Puts.{put-then, put-length, line-put, line-refused}
 use Rattle.jobline.proofs.write.write_plan.Statement.{statement}
 use Rattle.jobline.proofs.write.write_plan.Tie as tie
 

@@ -6,8 +6,8 @@ use native.Mathlib.Omega.{arith}
 use mathlib.Core.Path.{ap}
 use lib.ListN.{length, length-append}
 use Rattle.jobline.specs.Line.{refusedWord, refusedLine}
-use Rattle.jobline.proofs.Lines.{refused-pieces, refused-length, opening-length}
-use Rattle.jobline.proofs.Puts.{put-then, put-length, line-put, line-refused}
+use Rattle.jobline.proofs.theory.Lines.{refused-pieces, refused-length, opening-length}
+use Rattle.jobline.proofs.code.Puts.{put-then, put-length, line-put, line-refused}
 use Rattle.jobline.proofs.write.write_refusal.Statement.{statement}
 use Rattle.jobline.proofs.write.write_refusal.Tie as tie
 

@@ -9,7 +9,7 @@ use lib.ListN.{length, getD, take, set, length-append, length-set}
 use lib.Seq.{sets, length-sets, take-all}
 use borrow.Author.Tests.{le-leb, lt-leb}
 use Rattle.jobline.specs.Put.{Put, LineAnswered}
-use Rattle.jobline.proofs.Stores.{sets-append, sets-front, store-next}
+use Rattle.jobline.proofs.theory.Stores.{sets-append, sets-front, store-next}
 
 pub put-then : {s t old mid new : List ℕ} {at k next : ℕ} → Put s old at mid k → Put t mid k new next → Put (s ++ t) old at new next
 put-then {s} {t} {old} {mid} {new} {at} {k} {next} a b =

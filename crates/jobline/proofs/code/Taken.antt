@@ -1,6 +1,6 @@
--- Laws of `cellsAt`: what it finds by what stands at the place, and the loop that takes one cell after the other.
--- Assumes nothing.
-use Prim.Native.Nat.{ℕ, zero, suc, _+_, _-_, _≤_, _<_}
+-- The loop that takes one cell after the other: what was taken so far and what the rest of the text still says make the whole.
+-- First the beginning and a turn, then both ways out. Assumes nothing.
+use Prim.Native.Nat.{ℕ, suc, _+_, _-_, _≤_, _<_}
 use native.Mathlib.Omega.{arith}
 use mathlib.Core.Path.{_≡_, refl, ap, sym, _∙_, subst⁻¹}
 use mathlib.Core.Bool.{Bool, true, false}
@@ -8,31 +8,12 @@ use mathlib.Core.List.{List, [], _∷_, _++_, append-assoc, append-nil}
 use mathlib.Core.Option.{Option, none, some}
 use lib.ListN.{length, set, length-append}
 use lib.Seq.{sets}
-use Rattle.jobline.proofs.Stores.{sets-snoc}
 use Rattle.jobline.specs.Scan.{fieldAt, endsAt, cellsAt, prepend}
 use Rattle.jobline.specs.Held.{Counted}
-use Rattle.jobline.specs.declared.read.NumberRead.the-variants.{Number, Bad}
+use Rattle.jobline.specs.declared.read.NumberRead.the-variants.{Number}
 use Rattle.jobline.specs.declared.read.CellCount.the-variants.{Cells, Uncounted}
-
-module _ (text : List ℕ) (at : ℕ) where
-  pub cells-end : (k : ℕ) → endsAt text at ≡ true → cellsAt k text at ≡ some []
-  unfolding cellsAt
-  cells-end zero e = rw e
-  cells-end (suc k) e = rw e
-
-  pub cells-full : endsAt text at ≡ false → cellsAt zero text at ≡ none
-  unfolding cellsAt
-  cells-full e = rw e
-
-  pub cells-bad : (k : ℕ) → endsAt text at ≡ false → fieldAt false 255 text at ≡ Bad → cellsAt k text at ≡ none
-  unfolding cellsAt
-  cells-bad zero e f = rw e
-  cells-bad (suc k) e f = rw (e, f)
-
-  pub cells-more : (k v : ℕ) (m : Bool) (next : ℕ) → endsAt text at ≡ false → fieldAt false 255 text at ≡ Number v m next
-      → cellsAt (suc k) text at ≡ prepend v (cellsAt k text next)
-  unfolding cellsAt
-  cells-more k v m next e f = rw (e, f)
+use Rattle.jobline.proofs.theory.Stores.{sets-snoc}
+use Rattle.jobline.proofs.theory.Cells.{cells-end, cells-more}
 
 -- what was taken in front of what is found
 abbrev joined : List ℕ → Option (List ℕ) → Option (List ℕ)

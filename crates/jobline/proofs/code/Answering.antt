@@ -1,18 +1,18 @@
 -- From a text to its answer line: what the reading, the planning and the writing give each other. In this order: the line of an answer;
--- the answer of a job; the job of a text; how long the line is. Assumes nothing.
+-- the answer of a job; the job of a text. Assumes nothing.
 use Prim.Native.Nat.{ℕ, _≤_}
 use mathlib.Core.Path.{_≡_, refl, sym, ap, subst, _∙_}
 use mathlib.Core.List.{List}
 use mathlib.Core.Option.{Option, none, some}
 use native.Mathlib.Omega.{arith}
 use lib.IntN.{ℤ}
-use lib.ListN.{length, take, replicate, length-take}
-use lib.Seq.{length-sets, length-take-le}
+use lib.ListN.{length, take, replicate}
+use lib.Seq.{length-sets}
 use Rattle.planner.specs.declared.Plan.{Plan}
 use Rattle.planner.specs.declared.Refusal.{Refusal}
 use Rattle.planner.specs.declared.Answer.{Answer}
 use Rattle.planner.specs.declared.Answer.the-variants.{Planned, Refused}
-use Rattle.planner.specs.Answer.{Call, called, answered, Settles, refusalNumber, refusalCell, refusalVisits, number, cell, visits, planLength}
+use Rattle.planner.specs.Answer.{Call, called, answered, Settles, number, cell, visits, planLength}
 use Rattle.jobline.specs.declared.read.Numbers.{Numbers}
 use Rattle.jobline.specs.declared.read.Reading.{Reading}
 use Rattle.jobline.specs.declared.read.Reading.the-variants.{Job as JobRead, Malformed}
@@ -21,21 +21,23 @@ use Rattle.jobline.specs.Scan.{readJob}
 use Rattle.jobline.specs.Held.{answerOf, cellsOf, Answers}
 use Rattle.jobline.specs.Line.{planLine, refusedLine}
 use Rattle.jobline.specs.Put.{LineAnswered}
-use Rattle.jobline.specs.Answer.{lineOf, leftLine, callFor, answerTo}
+use Rattle.jobline.specs.Answer.{lineOf, leftLine, answerTo}
 use Rattle.planner.proofs.Small.{Small, answered-small}
-use Rattle.jobline.proofs.Promised.{read-exactly, cells-in-front}
-use Rattle.jobline.proofs.Lines.{plan-short, refused-short}
+use Rattle.jobline.proofs.theory.Stores.{take-stored}
+use Rattle.jobline.proofs.theory.Sound.{sound}
 
 -- ---- the line of an answer
 
 pub plan-fits : (a : Answer) (pl : Plan) (n : ℕ) → a ≡ Planned pl → planLength a ≤ n → pl .length ≤ n
 plan-fits a pl n e = subst (λ (x : Answer). planLength x ≤ n → pl .length ≤ n) (sym e) (λ h. h)
 
-pub plan-line : (a : Answer) (pl : Plan) (moves old new : List ℕ) (r : ℕ) → a ≡ Planned pl → LineAnswered (planLine (pl .visits) (take (pl .length) moves)) old r new → LineAnswered (lineOf a moves) old r new
+pub plan-line : (a : Answer) (pl : Plan) (moves old new : List ℕ) (r : ℕ) → a ≡ Planned pl
+    → LineAnswered (planLine (pl .visits) (take (pl .length) moves)) old r new → LineAnswered (lineOf a moves) old r new
 unfolding lineOf
 plan-line a pl moves old new r e line = subst (λ (x : Answer). LineAnswered (lineOf x moves) old r new) (sym e) line
 
-pub refusal-line : (a : Answer) (why : Refusal) (n c v : ℕ) (moves old new : List ℕ) (r : ℕ) → a ≡ Refused why → n ≡ number a → c ≡ cell a → v ≡ visits a → LineAnswered (refusedLine n c v) old r new → LineAnswered (lineOf a moves) old r new
+pub refusal-line : (a : Answer) (why : Refusal) (n c v : ℕ) (moves old new : List ℕ) (r : ℕ) → a ≡ Refused why
+    → n ≡ number a → c ≡ cell a → v ≡ visits a → LineAnswered (refusedLine n c v) old r new → LineAnswered (lineOf a moves) old r new
 unfolding lineOf
 refusal-line a why n c v moves old new r e en ec ev line =
     subst (λ (l : List ℕ). LineAnswered l old r new) same line
@@ -53,7 +55,8 @@ refusal-line a why n c v moves old new r e en ec ev line =
 -- ---- the answer of a job
 
 -- the moves of a plan are in the buffer, and the cell is one of sixteen
-pub small-enough : (c : Call) (a : Answer) (moves table : List ℕ) → Settles (answered c) a moves table → length moves ≡ 120 → (planLength a ≤ length moves) × (cell a ≤ 15)
+pub small-enough : (c : Call) (a : Answer) (moves table : List ℕ) → Settles (answered c) a moves table → length moves ≡ 120
+    → (planLength a ≤ length moves) × (cell a ≤ 15)
 small-enough c a moves table settled long =
     let small : Small a = subst Small (sym (settled .answer)) (answered-small c) in
     (omega (arith, small .length-most), small .cell-most)
@@ -98,10 +101,10 @@ module _ (text old new : List ℕ) (answer : Reading) (n : Numbers) (count : ℕ
           let same : answerOf (some job) ≡ JobRead n count = ap answerOf (sym is) ∙ sym (a .numbers) ∙ e in
           let numbers : job .numbers ≡ n = cc in
           let counted : length (job .cells) ≡ count = cc in
-          let spells = read-exactly text job .0 is in
+          let spells = sound text job is in
           let stored : new ≡ cellsOf (some job) old = a .cells ∙ ap (λ (o : Option Job). cellsOf o old) is in
           let front : take count new ≡ job .cells =
-          rw (← counted, stored) (cells-in-front text job old spells long) in
+          rw (← counted, stored) (take-stored old (job .cells) (omega (arith, spells .count))) in
           record { is = is ∙ rw (front, ← numbers); few = rw (← counted) (spells .count) }
 
   pub job-count : count ≤ length new
@@ -111,8 +114,8 @@ module _ (text old new : List ℕ) (answer : Reading) (n : Numbers) (count : ℕ
       → LineAnswered (answerTo (some (jobOf n (take count new)))) out r out′ → LineAnswered (answerTo (readJob text)) out r out′
   text-line out out′ r line = subst (λ (o : Option Job). LineAnswered (answerTo o) out r out′) (sym (of-text .is)) line
 
-pub malformed-line : (text old new : List ℕ) (answer : Reading) (out out′ : List ℕ) (r : ℕ) → Answers (readJob text) old answer new → answer ≡ Malformed
-    → LineAnswered (refusedLine 12 0 0) out r out′ → LineAnswered (answerTo (readJob text)) out r out′
+pub malformed-line : (text old new : List ℕ) (answer : Reading) (out out′ : List ℕ) (r : ℕ)
+    → Answers (readJob text) old answer new → answer ≡ Malformed → LineAnswered (refusedLine 12 0 0) out r out′ → LineAnswered (answerTo (readJob text)) out r out′
 unfolding answerTo
 malformed-line text old new answer out out′ r a e line = go (readJob text) refl
   where
@@ -121,26 +124,3 @@ malformed-line text old new answer out out′ r a e line = go (readJob text) ref
     go (some job) is =
         let z : _≡_ {A = ℕ} 0 1 = cc (a .numbers, ap answerOf is) in
         absurd (omega arith)
-
--- ---- how long the line is
-
-answer-short : (a : Answer) (moves : List ℕ) → Small a → length (lineOf a moves) ≤ 138
-unfolding lineOf
-answer-short (Planned pl) moves small =
-    plan-short (pl .visits) (take (pl .length) moves) (small .visits-most) (omega (arith, length-take (pl .length) moves, small .length-most))
-answer-short (Refused r) moves small =
-    omega (
-      arith,
-      refused-short (refusalNumber r) (refusalCell r) (refusalVisits r) (omega (arith, small .number-most)) (omega (arith, small .cell-most))
-          (small .visits-most),
-    )
-
--- every text's answer line fits a buffer of 138 bytes, which the job program has
-pub line-fits : (text : List ℕ) → length (answerTo (readJob text)) ≤ 138
-unfolding answerTo
-line-fits text = of (readJob text)
-  where
-    of : (read : Option Job) → length (answerTo read) ≤ 138
-    of none = omega (arith, refused-short 12 0 0 (omega arith) (omega arith) (omega arith))
-    of (some job) =
-        answer-short (answered (callFor job) .answer) (answered (callFor job) .moves) (answered-small (callFor job))

@@ -1,6 +1,6 @@
 -- What is promised of the texts of jobs and answers. A text is read exactly where it is of the grammar, to the numbers that it spells,
--- and no text spells two jobs; a number in decimal is worth itself and has no leading zero; the contracts settle what they speak of.
--- Assumes nothing.
+-- and no text spells two jobs; a number in decimal is worth itself and has no leading zero; every answer's line fits the program's
+-- buffer; the contracts settle what they speak of. Assumes nothing.
 use Prim.Native.Nat.{ℕ, _≤_}
 use mathlib.Core.Path.{_≡_, refl, sym, ap, _∙_}
 use mathlib.Core.Bool.{Bool, true, false, cond}
@@ -15,11 +15,13 @@ use Rattle.jobline.specs.Scan.{readJob}
 use Rattle.jobline.specs.Held.{Answers, cellsOf}
 use Rattle.jobline.specs.Line.{decimal}
 use Rattle.jobline.specs.Put.{LineAnswered, roomFor}
+use Rattle.jobline.specs.Answer.{answerTo}
 use Rattle.jobline.specs.declared.read.Reading.{Reading}
-use Rattle.jobline.proofs.Stores.{take-stored}
-use Rattle.jobline.proofs.Sound.{sound}
-use Rattle.jobline.proofs.Complete.{complete}
-use Rattle.jobline.proofs.Decimal.{decimal-digits, decimal-small, decimal-value, decimal-first}
+use Rattle.jobline.proofs.theory.Stores.{take-stored}
+use Rattle.jobline.proofs.theory.Sound.{sound}
+use Rattle.jobline.proofs.theory.Complete.{complete}
+use Rattle.jobline.proofs.theory.Decimal.{decimal-digits, decimal-small, decimal-value, decimal-first}
+use Rattle.jobline.proofs.theory.Lines.{line-short}
 
 -- a text of the grammar is read to its numbers, and nothing else is read
 pub read-exactly : (text : List ℕ) (job : Job) → (readJob text ≡ some job) ↔ Spells text job
@@ -52,14 +54,25 @@ pub record Right (n : ℕ) (s : List ℕ) : Type 0 where
   pub nought : n ≡ 0 → s ≡ 48 ∷ []
 
 pub decimal-right : (n : ℕ) → Right n (decimal n)
-decimal-right n = record { digits = decimal-digits n; value = decimal-value n; first = decimal-first n; nought = λ e. rw e (decimal-small 0 (omega arith)) }
+decimal-right n =
+    record {
+      digits = decimal-digits n;
+      value = decimal-value n;
+      first = decimal-first n;
+      nought = λ e. rw e (decimal-small 0 (omega arith));
+    }
+
+-- every text's answer line fits a buffer of 138 bytes, which the job program has
+pub line-fits : (text : List ℕ) → length (answerTo (readJob text)) ≤ 138
+line-fits text = line-short (readJob text)
 
 -- any two results that a contract allows are equal
 pub answer-settled : (read : Option Job) (old : List ℕ) (a b : Reading) (x y : List ℕ) → Answers read old a x → Answers read old b y
     → (a ≡ b) × (x ≡ y)
 answer-settled read old a b x y s t = (s .numbers ∙ sym (t .numbers), s .cells ∙ sym (t .cells))
 
-pub line-settled : (text old : List ℕ) (a b : ℕ) (x y : List ℕ) → LineAnswered text old a x → LineAnswered text old b y → (a ≡ b) × (x ≡ y)
+pub line-settled : (text old : List ℕ) (a b : ℕ) (x y : List ℕ) → LineAnswered text old a x → LineAnswered text old b y
+    → (a ≡ b) × (x ≡ y)
 line-settled text old a b x y s t = (s .count ∙ sym (t .count), s .buffer ∙ sym (t .buffer))
 
 -- a line that was put is within the buffer, which stays as long as it was

@@ -10,7 +10,7 @@ use lib.ListN.{length, take, drop}
 use borrow.Author.Tests.{leb-true, le-leb, lt-leb, eqb-true, eq-eqb, ne-eqb}
 use Rattle.jobline.specs.Numeral.{space, minusSign, valueOf}
 use Rattle.jobline.specs.Scan.{byteAt, run, numberAt, minusAt, signedAt, fieldAt}
-use Rattle.jobline.proofs.Places.{inside}
+use Rattle.jobline.proofs.theory.Places.{inside}
 use Rattle.jobline.specs.declared.read.NumberRead.the-variants.{Number, Bad}
 
 -- the digits at a place, and what they are worth

@@ -19,9 +19,9 @@ use Rattle.jobline.specs.declared.read.NumberRead.the-variants.{Number, 
 use Rattle.jobline.specs.declared.read.Numbers.{Numbers}
 use Rattle.jobline.specs.declared.read.HeadRead.{HeadRead}
 use Rattle.jobline.specs.declared.read.HeadRead.the-variants.{Sound as Whole, Broken}
-use Rattle.jobline.proofs.Runs.{run-digits, run-le}
-use Rattle.jobline.proofs.Places.{left}
-use Rattle.jobline.proofs.Fields.{count, number-found}
+use Rattle.jobline.proofs.theory.Runs.{run-digits, run-le}
+use Rattle.jobline.proofs.theory.Places.{left}
+use Rattle.jobline.proofs.theory.Fields.{count, number-found}
 
 -- a field in the text: its bytes, and what is left behind it
 record InText (P : List ℕ → Type 0) (front : List ℕ → List ℕ) (text : List ℕ) (at next : ℕ) : Type 0 where

@@ -18,10 +18,10 @@ use Rattle.jobline.specs.Scan.{byteAt, run, numberAt, minusAt, fieldAt, 
 use Rattle.jobline.specs.declared.read.NumberRead.{NumberRead}
 use Rattle.jobline.specs.declared.read.NumberRead.the-variants.{Number}
 use Rattle.jobline.specs.declared.read.HeadRead.the-variants.{Sound as Whole}
-use Rattle.jobline.proofs.Runs.{run-append, run-low, value-below, value-bound}
-use Rattle.jobline.proofs.Places.{behind-byte, behind-field, first}
-use Rattle.jobline.proofs.Fields.{count, worth, number-is, field-minus, field-plain}
-use Rattle.jobline.proofs.Cells.{cells-end, cells-more}
+use Rattle.jobline.proofs.theory.Runs.{run-append, run-low, value-below, value-bound}
+use Rattle.jobline.proofs.theory.Places.{behind-byte, behind-field, first}
+use Rattle.jobline.proofs.theory.Fields.{count, worth, number-is, field-minus, field-plain}
+use Rattle.jobline.proofs.theory.Cells.{cells-end, cells-more}
 
 -- behind a field no digit stands
 after-run : (fs : List (List ℕ)) → run (after fs) ≡ 0
