@@ -1,5 +1,5 @@
--- `read::head_of` meets its contract: each return is `headOf` at the answers of the fields before it. What a call ensures and what a
--- match says of its result give what the definition finds there. Assumes nothing.
+-- `read::head_of` meets its contract: each return is `headOf` at the answers of the fields before it. First the places where a field is
+-- known, each from the next, and what the definition finds there; then the needs. Assumes nothing.
 use Prim.Native.Nat.{ℕ}
 use borrow.Author.Needs.{needs}
 use mathlib.Core.Bool.{true, false}
@@ -9,23 +9,64 @@ use mir.Syntax.{w32}
 use mir.ValLaws.{toZ-ofZ}
 use Rattle.jobline.specs.Scan.{numberAt, fieldAt, nines, headOf}
 use Rattle.jobline.specs.declared.read.NumberRead.{NumberRead}
+use Rattle.jobline.specs.declared.read.NumberRead.the-variants.{Number}
 use Rattle.jobline.proofs.theory.Fields.{field-small}
 use Rattle.jobline.proofs.read.head_of.Statement.{statement}
 use Rattle.jobline.proofs.read.head_of.Tie as tie
 
--- what each field is read by
-module _ (text : List ℕ) {r x : NumberRead} where
-  width-is : r ≡ numberAt false 255 text 0 → r ≡ x → numberAt false 255 text 0 ≡ x
-  width-is e f = sym e ∙ f
+-- from the place where a field is known to the place of the field before it
+abbrev width-before : tie.After-height → tie.After-width
+width-before c = c .before .before .before .before
 
-  small-is : (at : ℕ) → r ≡ fieldAt false 255 text at → r ≡ x → fieldAt false 255 text at ≡ x
-  small-is at e f = sym e ∙ f
+abbrev height-before : tie.After-size → tie.After-height
+height-before c = c .before .before .before .before
 
-  ceiling-is : (at : ℕ) → r ≡ fieldAt true nines text at → r ≡ x → fieldAt true nines text at ≡ x
-  ceiling-is at e f = sym e ∙ f
+abbrev size-before : tie.After-budget → tie.After-size
+size-before c = c .before .before .before .before
 
-  budget-is : (at : ℕ) → r ≡ fieldAt false nines text at → r ≡ x → fieldAt false nines text at ≡ x
-  budget-is at e f = sym e ∙ f
+abbrev budget-before : tie.After-p → tie.After-budget
+budget-before c = c .before .before .before .before
+
+abbrev p-before : tie.After-q → tie.After-p
+p-before c = c .before .before .before .before
+
+-- the text that is read
+abbrev text-of : tie.After-width → List ℕ
+text-of c = c .before .before .before .before .args .text .now
+
+-- what the definition finds there: what a call ensures of its result, and what the match says of it
+found : {r asked told : NumberRead} → r ≡ asked → r ≡ told → asked ≡ told
+found e f = sym e ∙ f
+
+width-found : (c : tie.After-width) →
+    let told = c .width .given .0 in
+    numberAt false 255 (text-of c) 0 ≡ Number (told .0) (told .1 .0) (told .1 .1 .0)
+width-found c = found (c .before .before .number-at .ensures) (c .width .given .1)
+
+height-found : (c : tie.After-height) →
+    let told = c .height .given .0 in
+    fieldAt false 255 (text-of (width-before c)) (width-before c .width .given .0 .1 .1 .0) ≡ Number (told .0) (told .1 .0) (told .1 .1 .0)
+height-found c = found (c .before .before .field-at .ensures) (c .height .given .1)
+
+size-found : (c : tie.After-size) →
+    let told = c .size .given .0 in
+    fieldAt true nines (text-of (width-before (height-before c))) (height-before c .height .given .0 .1 .1 .0) ≡ Number (told .0) (told .1 .0) (told .1 .1 .0)
+size-found c = found (c .before .before .field-at2 .ensures) (c .size .given .1)
+
+budget-found : (c : tie.After-budget) →
+    let told = c .budget .given .0 in
+    fieldAt false nines (text-of (width-before (height-before (size-before c)))) (size-before c .size .given .0 .1 .1 .0) ≡ Number (told .0) (told .1 .0) (told .1 .1 .0)
+budget-found c = found (c .before .before .field-at3 .ensures) (c .budget .given .1)
+
+p-found : (c : tie.After-p) →
+    let told = c .p .given .0 in
+    fieldAt false 255 (text-of (width-before (height-before (size-before (budget-before c))))) (budget-before c .budget .given .0 .1 .1 .0) ≡ Number (told .0) (told .1 .0) (told .1 .1 .0)
+p-found c = found (c .before .before .field-at4 .ensures) (c .p .given .1)
+
+q-found : (c : tie.After-q) →
+    let told = c .q .given .0 in
+    fieldAt false 255 (text-of (width-before (height-before (size-before (budget-before (p-before c)))))) (p-before c .p .given .0 .1 .1 .0) ≡ Number (told .0) (told .1 .0) (told .1 .1 .0)
+q-found c = found (c .before .before .field-at5 .ensures) (c .q .given .1)
 
 number-at-requires : tie.Need-number-at-requires
 number-at-requires c κs = search needs
@@ -38,9 +79,7 @@ enum-told c = search needs
 
 returns : tie.Need-returns
 unfolding headOf
-returns c =
-    rw
-    (width-is _ (c .before .before .number-at .ensures) (c .enum-told .given .1))
+returns c = rw (found (c .before .before .number-at .ensures) (c .enum-told .given .1))
 
 field-at-requires : tie.Need-field-at-requires
 field-at-requires c κs = search needs
@@ -54,10 +93,10 @@ enum-told-2 c = search needs
 returns-2 : tie.Need-returns-2
 unfolding headOf
 returns-2 c =
-    let k1 = c .before .before .before in
+    let width = c .before .before .before .before in
     rw (
-      width-is _ (k1 .before .before .before .number-at .ensures) (k1 .before .width .given .1),
-      small-is _ _ (c .before .before .field-at .ensures) (c .enum-told2 .given .1),
+      width-found width,
+      found (c .before .before .field-at .ensures) (c .enum-told2 .given .1),
     )
 
 field-at-requires-2 : tie.Need-field-at-requires-2
@@ -72,12 +111,12 @@ enum-told-3 c = search needs
 returns-3 : tie.Need-returns-3
 unfolding headOf
 returns-3 c =
-    let k2 = c .before .before .before in
-    let k1 = k2 .before .before .before .before in
+    let height = c .before .before .before .before in
+    let width = width-before height in
     rw (
-      width-is _ (k1 .before .before .before .number-at .ensures) (k1 .before .width .given .1),
-      small-is _ _ (k2 .before .before .before .field-at .ensures) (k2 .before .height .given .1),
-      ceiling-is _ _ (c .before .before .field-at2 .ensures) (c .enum-told3 .given .1),
+      width-found width,
+      height-found height,
+      found (c .before .before .field-at2 .ensures) (c .enum-told3 .given .1),
     )
 
 field-at-requires-3 : tie.Need-field-at-requires-3
@@ -92,14 +131,14 @@ enum-told-4 c = search needs
 returns-4 : tie.Need-returns-4
 unfolding headOf
 returns-4 c =
-    let k3 = c .before .before .before in
-    let k2 = k3 .before .before .before .before in
-    let k1 = k2 .before .before .before .before in
+    let size = c .before .before .before .before in
+    let height = height-before size in
+    let width = width-before height in
     rw (
-      width-is _ (k1 .before .before .before .number-at .ensures) (k1 .before .width .given .1),
-      small-is _ _ (k2 .before .before .before .field-at .ensures) (k2 .before .height .given .1),
-      ceiling-is _ _ (k3 .before .before .before .field-at2 .ensures) (k3 .before .size .given .1),
-      budget-is _ _ (c .before .before .field-at3 .ensures) (c .enum-told4 .given .1),
+      width-found width,
+      height-found height,
+      size-found size,
+      found (c .before .before .field-at3 .ensures) (c .enum-told4 .given .1),
     )
 
 field-at-requires-4 : tie.Need-field-at-requires-4
@@ -114,16 +153,16 @@ enum-told-5 c = search needs
 returns-5 : tie.Need-returns-5
 unfolding headOf
 returns-5 c =
-    let k4 = c .before .before .before in
-    let k3 = k4 .before .before .before .before in
-    let k2 = k3 .before .before .before .before in
-    let k1 = k2 .before .before .before .before in
+    let budget = c .before .before .before .before in
+    let size = size-before budget in
+    let height = height-before size in
+    let width = width-before height in
     rw (
-      width-is _ (k1 .before .before .before .number-at .ensures) (k1 .before .width .given .1),
-      small-is _ _ (k2 .before .before .before .field-at .ensures) (k2 .before .height .given .1),
-      ceiling-is _ _ (k3 .before .before .before .field-at2 .ensures) (k3 .before .size .given .1),
-      budget-is _ _ (k4 .before .before .before .field-at3 .ensures) (k4 .before .budget .given .1),
-      small-is _ _ (c .before .before .field-at4 .ensures) (c .enum-told5 .given .1),
+      width-found width,
+      height-found height,
+      size-found size,
+      budget-found budget,
+      found (c .before .before .field-at4 .ensures) (c .enum-told5 .given .1),
     )
 
 field-at-requires-5 : tie.Need-field-at-requires-5
@@ -138,41 +177,40 @@ enum-told-6 c = search needs
 returns-6 : tie.Need-returns-6
 unfolding headOf
 returns-6 c =
-    let k5 = c .before .before .before in
-    let k4 = k5 .before .before .before .before in
-    let k3 = k4 .before .before .before .before in
-    let k2 = k3 .before .before .before .before in
-    let k1 = k2 .before .before .before .before in
+    let p = c .before .before .before .before in
+    let budget = budget-before p in
+    let size = size-before budget in
+    let height = height-before size in
+    let width = width-before height in
     rw (
-      width-is _ (k1 .before .before .before .number-at .ensures) (k1 .before .width .given .1),
-      small-is _ _ (k2 .before .before .before .field-at .ensures) (k2 .before .height .given .1),
-      ceiling-is _ _ (k3 .before .before .before .field-at2 .ensures) (k3 .before .size .given .1),
-      budget-is _ _ (k4 .before .before .before .field-at3 .ensures) (k4 .before .budget .given .1),
-      small-is _ _ (k5 .before .before .before .field-at4 .ensures) (k5 .before .p .given .1),
-      small-is _ _ (c .before .before .field-at5 .ensures) (c .enum-told6 .given .1),
+      width-found width,
+      height-found height,
+      size-found size,
+      budget-found budget,
+      p-found p,
+      found (c .before .before .field-at5 .ensures) (c .enum-told6 .given .1),
     )
 
 with-sign-requires : tie.Need-with-sign-requires
 with-sign-requires c κs =
-    let k3 = c .before .before .before .before .before .before .before .before .before .before .before .before in
-    field-small true nines _ _ _ _ _ (ceiling-is _ _ (k3 .before .before .before .field-at2 .ensures) (k3 .before .size .given .1))
+    field-small true nines _ _ _ _ _ (size-found (size-before (budget-before (p-before (c .before)))))
 
 returns-7 : tie.Need-returns-7
 unfolding headOf
 returns-7 c =
-    let k6 = c .before in
-    let k5 = k6 .before .before .before .before in
-    let k4 = k5 .before .before .before .before in
-    let k3 = k4 .before .before .before .before in
-    let k2 = k3 .before .before .before .before in
-    let k1 = k2 .before .before .before .before in
+    let q = c .before .before in
+    let p = p-before q in
+    let budget = budget-before p in
+    let size = size-before budget in
+    let height = height-before size in
+    let width = width-before height in
     rw (
-      width-is _ (k1 .before .before .before .number-at .ensures) (k1 .before .width .given .1),
-      small-is _ _ (k2 .before .before .before .field-at .ensures) (k2 .before .height .given .1),
-      ceiling-is _ _ (k3 .before .before .before .field-at2 .ensures) (k3 .before .size .given .1),
-      budget-is _ _ (k4 .before .before .before .field-at3 .ensures) (k4 .before .budget .given .1),
-      small-is _ _ (k5 .before .before .before .field-at4 .ensures) (k5 .before .p .given .1),
-      small-is _ _ (k6 .before .before .before .field-at5 .ensures) (k6 .before .q .given .1),
+      width-found width,
+      height-found height,
+      size-found size,
+      budget-found budget,
+      p-found p,
+      q-found q,
       toZ-ofZ w32 (c .with-sign .result) (record { sfits = c .with-sign .ok }),
       c .with-sign .ensures,
     )
