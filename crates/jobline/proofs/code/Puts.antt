@@ -1,5 +1,5 @@
--- Laws of putting text into a buffer: one text behind another is both, the buffer keeps its length, and a line that has room is answered
--- for. Assumes nothing.
+-- Laws of putting text into a buffer: one text behind another is both, the buffer keeps its length, a line that has room is answered
+-- for; a text of three pieces, each with room where the whole has; and the loop that stores a text byte by byte. Assumes nothing.
 use Prim.Native.Nat.{ℕ, _+_, _≤_, _<_}
 use native.Mathlib.Omega.{arith}
 use native.Mathlib.Nat.{zero-add}
@@ -20,6 +20,33 @@ put-then {s} {t} {old} {mid} {new} {at} {k} {next} a b =
 
 pub put-length : {s old new : List ℕ} {at next : ℕ} → Put s old at new next → length new ≡ length old
 put-length {s} {old} {new} {at} a = ap length (a .bytes) ∙ length-sets old at s
+
+-- behind a text that was put there is room for n bytes more, where there was for both
+pub room-behind : {s old mid : List ℕ} {at k : ℕ} (n : ℕ) → Put s old at mid k → at + (length s + n) ≤ length old → k + n ≤ length mid
+room-behind n a h = omega (arith, a .end, put-length a)
+
+-- a text that has room in a buffer, in three pieces that are put one behind the other from the start
+pub record InPieces (front middle end whole old : List ℕ) : Type 0 where
+  pub joined : (front ++ middle) ++ end ≡ whole
+  pub room : length whole ≤ length old
+
+module _ {front middle end whole old : List ℕ} (p : InPieces front middle end whole old) where
+  pieces-fit : length front + length middle + length end ≤ length old
+  pieces-fit = omega (arith, p .room, simp length-append at (ap length (p .joined)))
+
+  pub front-fits : length front ≤ length old
+  front-fits = omega (arith, pieces-fit)
+
+  module _ {mid : List ℕ} {k : ℕ} (a : Put front old 0 mid k) where
+    pub middle-fits : k + length middle ≤ length mid
+    middle-fits = room-behind (length middle) a (omega (arith, pieces-fit))
+
+    module _ {late : List ℕ} {j : ℕ} (b : Put middle mid k late j) where
+      pub end-fits : j + length end ≤ length late
+      end-fits = room-behind (length end) (put-then a b) (simp length-append (omega (arith, pieces-fit)))
+
+      pub all-put : {new : List ℕ} {next : ℕ} → Put end late j new next → Put whole old 0 new next
+      all-put c = rw (p .joined) at (put-then (put-then a b) c)
 
 pub line-put : {text old new : List ℕ} {next : ℕ} → length text ≤ length old → Put text old 0 new next → LineAnswered text old next new
 line-put {text} {old} h a =

@@ -3,7 +3,7 @@
 use Prim.Native.Nat.{ℕ, zero, suc, _+_, _≤_}
 use native.Mathlib.Omega.{arith}
 use mathlib.Core.Path.{_≡_, refl, ap, sym, _∙_}
-use mathlib.Core.List.{List, [], _∷_, _++_, append-assoc}
+use mathlib.Core.List.{List, [], _∷_, _++_, map, append-assoc}
 use mathlib.Core.Option.{Option, none, some}
 use lib.ListN.{length, take, length-append, length-map, length-take}
 use Rattle.planner.specs.declared.Answer.{Answer}
@@ -41,9 +41,16 @@ refused-length number cell visits =
     ap length (sym (refused-pieces number cell visits)) ∙ simp length-append (omega arith)
 
 -- a dash, or as many letters as moves
-pub letters-some : (moves : List ℕ) → 1 ≤ length moves → length (letters moves) ≡ length moves
-letters-some [] h = absurd (omega arith)
-letters-some (m ∷ moves) h = ap suc (length-map moves letter)
+pub letters-dash : (moves : List ℕ) → length moves ≡ 0 → letters moves ≡ 45 ∷ []
+letters-dash [] e = refl
+letters-dash (m ∷ moves) e = absurd (omega arith)
+
+pub letters-spelled : (moves : List ℕ) → (length moves ≡ 0 → ⊥) → letters moves ≡ map letter moves
+letters-spelled [] h = absurd (h refl)
+letters-spelled (m ∷ moves) h = refl
+
+pub letters-some : (moves : List ℕ) → (length moves ≡ 0 → ⊥) → length (letters moves) ≡ length moves
+letters-some moves h = ap length (letters-spelled moves h) ∙ length-map moves letter
 
 pub letters-length : (moves : List ℕ) → length (letters moves) ≤ length moves + 1
 letters-length [] = omega arith
@@ -59,7 +66,7 @@ module _ (visits : ℕ) (few : visits ≤ 1000000) where
 
       go : (n : ℕ) → length moves ≡ n → length (planLine visits moves) ≤ 138
       go zero e = omega (arith, plan-length visits moves, letters-length moves, digits)
-      go (suc n) e = omega (arith, plan-length visits moves, letters-some moves (omega arith), digits)
+      go (suc n) e = omega (arith, plan-length visits moves, letters-some moves (λ z. omega arith), digits)
 
   pub refused-short : (number cell : ℕ) → number ≤ 14 → cell ≤ 32 → length (refusedLine number cell visits) ≤ 22
   refused-short number cell h k =

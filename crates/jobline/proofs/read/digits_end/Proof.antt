@@ -4,8 +4,8 @@ use Prim.Native.Nat.{ℕ, _+_, _-_, suc}
 use native.Mathlib.Omega.{arith}
 use native.Mathlib.Numerals.{add-one}
 use mathlib.Core.Path.{_≡_, refl}
-use mathlib.Core.List.{List}
-use lib.ListN.{length, drop, drop-of-length-le}
+use mathlib.Core.List.{List, _∷_}
+use lib.ListN.{length, getD, drop, drop-of-length-le}
 use lib.Seq.{drop-cons}
 use Rattle.jobline.specs.Scan.{run}
 use Rattle.jobline.proofs.theory.Runs.{run-digit, run-low, run-high, run-nil}
@@ -22,6 +22,22 @@ abbrev μ-loop : tie.MeasureT-loop
 stops : (text : List ℕ) (i n : ℕ) → i + run (drop i text) ≡ n → run (drop i text) ≡ 0 → i ≡ n
 stops text i n e z = omega arith
 
+-- the places of a turn, and what stands there: the byte that was read, and what is left behind it
+abbrev Head : Type 0
+Head = tie.At-loop Inv-loop μ-loop
+
+abbrev Inside : Type 0
+Inside = tie.In-loop Inv-loop μ-loop
+
+abbrev text-of : Head → List ℕ
+text-of l = l .before .args .text .now
+
+here : (c : Inside) →
+    let text = text-of (c .before) in
+    let i = c .before .loop .i in
+    drop i text ≡ getD text i 0 ∷ drop (suc i) text
+here c = drop-cons (text-of (c .before)) (c .before .loop .i) 0 (c .loop-test .taken)
+
 loop-holds : tie.Need-loop-holds Inv-loop μ-loop
 loop-holds c = refl
 
@@ -30,15 +46,13 @@ shared-slice-read-b c = omega arith
 
 returns : tie.Need-returns Inv-loop μ-loop
 returns c =
-    let l = c .before .before .before .loop in
-    let text = c .before .before .before .before .args .text .now in
-    stops text (l .i) _ (l .inv) (rw (drop-cons text (l .i) 0 (c .before .before .loop-test .taken)) (run-low _ _ (c .if1 .taken)))
+    let turn = c .before .before in
+    stops (text-of (turn .before)) (turn .before .loop .i) _ (turn .before .loop .inv) (rw (here turn) (run-low _ _ (c .if1 .taken)))
 
 returns-2 : tie.Need-returns-2 Inv-loop μ-loop
 returns-2 c =
-    let l = c .before .before .before .before .loop in
-    let text = c .before .before .before .before .before .args .text .now in
-    stops text (l .i) _ (l .inv) (rw (drop-cons text (l .i) 0 (c .before .before .before .loop-test .taken)) (run-high _ _ (c .if2 .taken)))
+    let turn = c .before .before .before in
+    stops (text-of (turn .before)) (turn .before .loop .i) _ (turn .before .loop .inv) (rw (here turn) (run-high _ _ (c .if2 .taken)))
 
 add-i : tie.Need-add-i Inv-loop μ-loop
 add-i c = omega arith
@@ -48,17 +62,16 @@ loop-less c = omega arith
 
 loop-again : tie.Need-loop-again Inv-loop μ-loop
 loop-again c =
-    let l = c .before .before .before .before .loop in
-    let text = c .before .before .before .before .before .args .text .now in
-    let e : run (drop (l .i) text) ≡ suc (run (drop (suc (l .i)) text)) =
-    rw (drop-cons text (l .i) 0 (c .before .before .before .loop-test .taken)) (run-digit _ _ (c .before .if1 .left, c .if2 .left)) in
-    rw add-one (omega (arith, l .inv))
+    let turn = c .before .before .before in
+    let text = text-of (turn .before) in
+    let i = turn .before .loop .i in
+    let e : run (drop i text) ≡ suc (run (drop (suc i) text)) = rw (here turn) (run-digit _ _ (c .before .if1 .left, c .if2 .left)) in
+    rw add-one (omega (arith, turn .before .loop .inv))
 
 returns-3 : tie.Need-returns-3 Inv-loop μ-loop
 returns-3 c =
-    let l = c .before .loop in
-    let text = c .before .before .args .text .now in
-    stops text (l .i) _ (l .inv) (rw (drop-of-length-le text (c .loop-test .left)) run-nil)
+    let text = text-of (c .before) in
+    stops text (c .before .loop .i) _ (c .before .loop .inv) (rw (drop-of-length-le text (c .loop-test .left)) run-nil)
 
 pub digits-end-spec : {M : Type 1} → statement M
 digits-end-spec =

@@ -2,11 +2,23 @@
 -- behind it fits. Assumes nothing.
 use borrow.Author.Needs.{needs}
 use native.Mathlib.Omega.{arith}
-use mathlib.Core.Path.{sym, _∙_}
+use mathlib.Core.Path.{_≡_, sym, _∙_}
+use Rattle.jobline.specs.Numeral.{space}
+use Rattle.jobline.specs.Scan.{byteAt}
 use Rattle.jobline.proofs.theory.Places.{inside}
 use Rattle.jobline.proofs.theory.Fields.{minus-inside, field-none, field-minus, field-plain}
 use Rattle.jobline.proofs.read.field_at.Statement.{statement}
 use Rattle.jobline.proofs.read.field_at.Tie as tie
+
+-- where a space was found, and where it is known whether a minus stands behind it
+abbrev start-of : tie.Else1 → tie.Start
+start-of c = c .before .before .before
+
+abbrev spaced-of : tie.After-minus-at → tie.Else1
+spaced-of c = c .before
+
+spaced : (c : tie.Else1) → byteAt (start-of c .args .text .now) (start-of c .args .at) ≡ space
+spaced c = sym (c .before .byte-at .ensures) ∙ c .if1 .left
 
 byte-at-requires : tie.Need-byte-at-requires
 byte-at-requires c κs = search needs
@@ -17,16 +29,14 @@ returns c =
     sym (field-none (a .signed) (a .most) (a .text .now) (a .at) (λ e. c .if1 .taken (c .before .byte-at .ensures ∙ e)))
 
 add-start : tie.Need-add-start
-add-start c =
-    let a = c .before .before .before .args in
-    omega (arith, inside (a .text .now) (a .at) 31 (sym (c .before .byte-at .ensures) ∙ c .if1 .left))
+add-start c = omega (arith, inside (start-of c .args .text .now) (start-of c .args .at) 31 (spaced c))
 
 minus-at-requires : tie.Need-minus-at-requires
 minus-at-requires c κs = search needs
 
 add-number-at : tie.Need-add-number-at
 add-number-at c =
-    let a = c .before .before .before .before .before .args in
+    let a = start-of (spaced-of (c .before)) .args in
     omega (arith, minus-inside (a .signed) (a .text .now) _ (sym (c .before .minus-at .ensures) ∙ c .if2 .taken))
 
 number-at-requires : tie.Need-number-at-requires
@@ -34,24 +44,20 @@ number-at-requires c κs = search needs
 
 returns-2 : tie.Need-returns-2
 returns-2 c =
-    let b = c .before .before in
-    let a = b .before .before .before .before .args in
-    c .number-at .ensures
-    ∙ sym
-    (field-minus (a .signed) (a .most) (a .text .now) (a .at)
-    (sym (b .before .before .byte-at .ensures) ∙ b .before .if1 .left) (sym (b .minus-at .ensures) ∙ c .before .if2 .taken))
+    let asked = c .before .before in
+    let a = start-of (spaced-of asked) .args in
+    let minus = sym (asked .minus-at .ensures) ∙ c .before .if2 .taken in
+    c .number-at .ensures ∙ sym (field-minus (a .signed) (a .most) (a .text .now) (a .at) (spaced (spaced-of asked)) minus)
 
 number-at-requires-2 : tie.Need-number-at-requires-2
 number-at-requires-2 c κs = search needs
 
 returns-3 : tie.Need-returns-3
 returns-3 c =
-    let b = c .before .before in
-    let a = b .before .before .before .before .args in
-    c .number-at2 .ensures
-    ∙ sym
-    (field-plain (a .signed) (a .most) (a .text .now) (a .at)
-    (sym (b .before .before .byte-at .ensures) ∙ b .before .if1 .left) (sym (b .minus-at .ensures) ∙ c .before .if2 .left))
+    let asked = c .before .before in
+    let a = start-of (spaced-of asked) .args in
+    let plain = sym (asked .minus-at .ensures) ∙ c .before .if2 .left in
+    c .number-at2 .ensures ∙ sym (field-plain (a .signed) (a .most) (a .text .now) (a .at) (spaced (spaced-of asked)) plain)
 
 pub field-at-spec : {M : Type 1} → statement M
 field-at-spec =

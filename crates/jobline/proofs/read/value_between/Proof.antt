@@ -56,21 +56,24 @@ ended text from to v i a h =
     let e : i ≡ to = omega (arith, a .inside) in
     rw (e, slice-empty to text) at (a .whole)
 
-module _ (c : tie.After-shared-slice-known Inv-loop μ-loop) where
-  here : Digit (getD (c .before .before .before .args .text .now) (c .before .before .loop .i) 0)
-  here =
-      let l = c .before .before .loop in
-      let a = c .before .before .before in
-      next-digit (a .args .text .now) (a .args .to) (l .i) (c .before .loop-test .taken) (a .pre .inside) (l .inv .digits)
+-- what is known in a turn: the next byte is a digit, and the value with a digit more still fits
+module _ (c : tie.In-loop Inv-loop μ-loop) where
+  abbrev start : tie.Start Inv-loop μ-loop
+  start = c .before .before
 
-  small :
-      let l = c .before .before .loop in
-      l .value * 10 + (getD (c .before .before .before .args .text .now) (l .i) 0 - 48) < 1000000000
-  small =
-      let l = c .before .before .loop in
-      let a = c .before .before .before in
-      fits-next (a .args .from) (l .i) (a .args .to) (l .value) _ (l .inv .after) (c .before .loop-test .taken)
-      (a .pre .few) (l .inv .small) (omega (arith, here))
+  abbrev byte : ℕ
+  byte = getD (start .args .text .now) (c .before .loop .i) 0
+
+  here : Digit byte
+  here =
+      next-digit (start .args .text .now) (start .args .to) (c .before .loop .i) (c .loop-test .taken) (start .pre .inside)
+      (c .before .loop .inv .digits)
+
+  small : (d : ℕ) → d ≤ 9 → c .before .loop .value * 10 + d < 1000000000
+  small d h =
+      let inv = c .before .loop .inv in
+      fits-next (start .args .from) (c .before .loop .i) (start .args .to) (c .before .loop .value) d (inv .after)
+      (c .loop-test .taken) (start .pre .few) (inv .small) h
 
 loop-holds : tie.Need-loop-holds Inv-loop μ-loop
 loop-holds c =
@@ -83,43 +86,37 @@ loop-holds c =
     }
 
 mul-value : tie.Need-mul-value Inv-loop μ-loop
-mul-value c =
-    let l = c .before .loop in
-    let a = c .before .before in
-    omega (
-      arith,
-      fits-next (a .args .from) (l .i) (a .args .to) (l .value) 0 (l .inv .after) (c .loop-test .taken) (a .pre .few) (l .inv .small) (omega arith),
-    )
+mul-value c = omega (arith, small c 0 (omega arith))
 
 shared-slice-read-value : tie.Need-shared-slice-read-value Inv-loop μ-loop
-shared-slice-read-value c = omega (arith, c .before .before .before .pre .inside)
+shared-slice-read-value c = omega (arith, start (c .before) .pre .inside)
 
 sub-value : tie.Need-sub-value Inv-loop μ-loop
-sub-value c = here c .0
+sub-value c = here (c .before) .0
 
 cast-value : tie.Need-cast-value Inv-loop μ-loop
-cast-value c = omega (arith, here c)
+cast-value c = omega (arith, here (c .before))
 
 add-value : tie.Need-add-value Inv-loop μ-loop
-add-value c = omega (arith, small c)
+add-value c = omega (arith, small (c .before) (byte (c .before) - 48) (omega (arith, here (c .before))))
 
 add-i : tie.Need-add-i Inv-loop μ-loop
-add-i c = omega (arith, c .before .before .before .pre .inside)
+add-i c = omega (arith, start (c .before) .pre .inside)
 
 loop-less : tie.Need-loop-less Inv-loop μ-loop
 loop-less c = omega arith
 
 loop-again : tie.Need-loop-again Inv-loop μ-loop
 loop-again c =
+    let a = start (c .before) .args in
     let l = c .before .before .loop in
-    let a = c .before .before .before in
-    turn (a .args .text .now) (a .args .from) (a .args .to) (l .value) (l .i) (l .inv) (c .before .loop-test .taken) (a .pre .inside)
+    turn (a .text .now) (a .from) (a .to) (l .value) (l .i) (l .inv) (c .before .loop-test .taken) (start (c .before) .pre .inside)
 
 returns : tie.Need-returns Inv-loop μ-loop
 returns c =
+    let a = c .before .before .args in
     let l = c .before .loop in
-    let a = c .before .before in
-    ended (a .args .text .now) (a .args .from) (a .args .to) (l .value) (l .i) (l .inv) (c .loop-test .left)
+    ended (a .text .now) (a .from) (a .to) (l .value) (l .i) (l .inv) (c .loop-test .left)
 
 pub value-between-spec : {M : Type 1} → statement M
 value-between-spec =

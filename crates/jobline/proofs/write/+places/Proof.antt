@@ -16,39 +16,39 @@ use Rattle.jobline.proofs.write.+places.Tie.{close}
 abbrev μ-places : Measures 0 places-kinds.ps ℕ
 μ-places κs a = a .0
 
-abbrev places-at : ℕ → In 0 places-kinds.ps
-places-at t = and 0 places-kinds.ps (is 0 places-kinds.ps μ-places t) places.Pre
+module _ (t : ℕ) where
+  -- what is given at the measure t, and what a call asks below t
+  abbrev places-at : In 0 places-kinds.ps
+  places-at = and 0 places-kinds.ps (is 0 places-kinds.ps μ-places t) places.Pre
 
-abbrev places-below : ℕ → In 0 places-kinds.ps
-places-below t = and 0 places-kinds.ps (falls 0 places-kinds.ps _<_ μ-places t) places.Pre
+  abbrev places-below : In 0 places-kinds.ps
+  places-below = and 0 places-kinds.ps (falls 0 places-kinds.ps _<_ μ-places t) places.Pre
 
-places-places-requires :
-    (t : ℕ) →
-    places-lts.Need-places-requires (places-below t, places.Post) (places-at t) places.Post
-places-places-requires t c κs = (omega arith, tt)
+  abbrev claims : places-lts.Claims
+  claims = (places-below, places.Post)
 
-places-add-result :
-    (t : ℕ) → places-lts.Need-add-result (places-below t, places.Post) (places-at t) places.Post
-places-add-result t c =
-    omega (arith, c .places .ensures, decimal-short (c .before .before .args .n / 10), c .before .before .fits .n)
+  places-requires : places-lts.Need-places-requires claims places-at places.Post
+  places-requires c κs = (omega arith, tt)
 
-places-returns :
-    (t : ℕ) → places-lts.Need-returns (places-below t, places.Post) (places-at t) places.Post
-places-returns t c = ap (λ (k : ℕ). k + 1) (c .places .ensures) ∙ length-more _ (c .before .if1 .taken)
+  add-result : places-lts.Need-add-result claims places-at places.Post
+  add-result c =
+      omega (arith, c .places .ensures, decimal-short (c .before .before .args .n / 10), c .before .before .fits .n)
 
-places-returns-2 :
-    (t : ℕ) → places-lts.Need-returns-2 (places-below t, places.Post) (places-at t) places.Post
-places-returns-2 t c = sym (ap length (decimal-small _ (c .if1 .left)))
+  returns : places-lts.Need-returns claims places-at places.Post
+  returns c = ap (λ (k : ℕ). k + 1) (c .places .ensures) ∙ length-more _ (c .before .if1 .taken)
+
+  returns-2 : places-lts.Need-returns-2 claims places-at places.Post
+  returns-2 c = sym (ap length (decimal-small _ (c .if1 .left)))
 
 pub +places-spec : {M : Type 1} → statement M
 +places-spec =
     close
     μ-places
     λ t. places-lts.spec
-    (places-below t, places.Post)
+    (claims t)
     (places-at t)
     places.Post
-    (places-places-requires t)
-    (places-add-result t)
-    (places-returns t)
-    (places-returns-2 t)
+    (places-requires t)
+    (add-result t)
+    (returns t)
+    (returns-2 t)

@@ -5,7 +5,7 @@ use native.Mathlib.Omega.{arith}
 use mathlib.Core.Path.{ap}
 use lib.ListN.{length}
 use Rattle.jobline.proofs.theory.Decimal.{decimal-small, decimal-more, length-more}
-use Rattle.jobline.proofs.code.Puts.{put-then, put-length}
+use Rattle.jobline.proofs.code.Puts.{put-then, put-length, room-behind}
 use borrow.Fn.Kinds.{In}
 use borrow.Fn.PlainCycle.{Measures, is, falls, and}
 use Rattle.jobline.proofs.write.put_number.Reads as put-number
@@ -18,129 +18,96 @@ use Rattle.jobline.proofs.write.+put_number.Tie.{close}
 abbrev μ-put-number : Measures 1 put-number-kinds.ps ℕ
 μ-put-number κs a = a .0
 
-abbrev put-number-at : ℕ → In 1 put-number-kinds.ps
-put-number-at t =
-    and 1 put-number-kinds.ps (is 1 put-number-kinds.ps μ-put-number t) put-number.Pre
+module _ (t : ℕ) where
+  -- what is given at the measure t, what a call asks below t, and what is asked and learnt at the calls
+  abbrev put-number-at : In 1 put-number-kinds.ps
+  put-number-at = and 1 put-number-kinds.ps (is 1 put-number-kinds.ps μ-put-number t) put-number.Pre
 
-abbrev put-number-below : ℕ → In 1 put-number-kinds.ps
-put-number-below t =
-    and 1 put-number-kinds.ps (falls 1 put-number-kinds.ps _<_ μ-put-number t) put-number.Pre
+  abbrev put-number-below : In 1 put-number-kinds.ps
+  put-number-below = and 1 put-number-kinds.ps (falls 1 put-number-kinds.ps _<_ μ-put-number t) put-number.Pre
 
-put-number-add-put-byte : (t : ℕ) → put-number-lts.Need-add-put-byte (
-  put-byte-reads.Asked,
-  put-byte-reads.Learnt,
-  put-number-below t,
-  put-number.Post,
-) (put-number-at t) put-number.Post
-put-number-add-put-byte t c = omega arith
+  abbrev claims : put-number-lts.Claims
+  claims = (put-byte-reads.Asked, put-byte-reads.Learnt, put-number-below, put-number.Post)
 
-put-number-cast-put-byte : (t : ℕ) → put-number-lts.Need-cast-put-byte (
-  put-byte-reads.Asked,
-  put-byte-reads.Learnt,
-  put-number-below t,
-  put-number.Post,
-) (put-number-at t) put-number.Post
-put-number-cast-put-byte t c = omega arith
+  -- the places: past the test, on the way with one digit and on the way with more; past the front
+  abbrev Small : Type 0
+  Small = put-number-lts.Then1 claims put-number-at put-number.Post
 
-put-number-put-byte-requires : (t : ℕ) → put-number-lts.Need-put-byte-requires (
-  put-byte-reads.Asked,
-  put-byte-reads.Learnt,
-  put-number-below t,
-  put-number.Post,
-) (put-number-at t) put-number.Post
-put-number-put-byte-requires t c κs =
-    let s = c .before .before .before in
-    omega (arith, ap length (decimal-small (s .args .n) (c .before .if1 .taken)), s .pre)
+  abbrev Large : Type 0
+  Large = put-number-lts.Else1 claims put-number-at put-number.Post
 
-put-number-same-length : (t : ℕ) → put-number-lts.Need-same-length (
-  put-byte-reads.Asked,
-  put-byte-reads.Learnt,
-  put-number-below t,
-  put-number.Post,
-) (put-number-at t) put-number.Post
-put-number-same-length t c = put-length (c .before .before .put-byte .ensures)
+  abbrev Front : Type 0
+  Front = put-number-lts.After-put-number claims put-number-at put-number.Post
 
-put-number-returns : (t : ℕ) → put-number-lts.Need-returns (
-  put-byte-reads.Asked,
-  put-byte-reads.Learnt,
-  put-number-below t,
-  put-number.Post,
-) (put-number-at t) put-number.Post
-put-number-returns t c = rw (decimal-small _ (c .before .before .before .before .if1 .taken)) (c .before .before .put-byte .ensures)
+  abbrev large-of : Front → Large
+  large-of c = c .before .before
 
-put-number-put-number-requires : (t : ℕ) → put-number-lts.Need-put-number-requires (
-  put-byte-reads.Asked,
-  put-byte-reads.Learnt,
-  put-number-below t,
-  put-number.Post,
-) (put-number-at t) put-number.Post
-put-number-put-number-requires t c κs =
-    let s = c .before .before .before in
-    (omega (arith, s .pre), omega (arith, length-more (s .args .n) (c .before .if1 .left), s .pre))
+  add-put-byte : put-number-lts.Need-add-put-byte claims put-number-at put-number.Post
+  add-put-byte c = omega arith
 
-put-number-add-put-byte-2 : (t : ℕ) → put-number-lts.Need-add-put-byte-2 (
-  put-byte-reads.Asked,
-  put-byte-reads.Learnt,
-  put-number-below t,
-  put-number.Post,
-) (put-number-at t) put-number.Post
-put-number-add-put-byte-2 t c = omega arith
+  cast-put-byte : put-number-lts.Need-cast-put-byte claims put-number-at put-number.Post
+  cast-put-byte c = omega arith
 
-put-number-cast-put-byte-2 : (t : ℕ) → put-number-lts.Need-cast-put-byte-2 (
-  put-byte-reads.Asked,
-  put-byte-reads.Learnt,
-  put-number-below t,
-  put-number.Post,
-) (put-number-at t) put-number.Post
-put-number-cast-put-byte-2 t c = omega arith
+  put-byte-requires : put-number-lts.Need-put-byte-requires claims put-number-at put-number.Post
+  put-byte-requires c κs =
+      let start = c .before .before .before in
+      omega (arith, ap length (decimal-small (start .args .n) (c .before .if1 .taken)), start .pre)
 
-put-number-put-byte-requires-2 : (t : ℕ) → put-number-lts.Need-put-byte-requires-2 (
-  put-byte-reads.Asked,
-  put-byte-reads.Learnt,
-  put-number-below t,
-  put-number.Post,
-) (put-number-at t) put-number.Post
-put-number-put-byte-requires-2 t c κs =
-    let s = c .before .before .before .before .before .before .before in
-    let p = c .before .before .before .put-number .ensures in
-    omega (arith, length-more (s .args .n) (c .before .before .before .before .before .if1 .left), s .pre, p .end, put-length p)
+  same-length : put-number-lts.Need-same-length claims put-number-at put-number.Post
+  same-length c = put-length (c .before .before .put-byte .ensures)
 
-put-number-same-length-2 : (t : ℕ) → put-number-lts.Need-same-length-2 (
-  put-byte-reads.Asked,
-  put-byte-reads.Learnt,
-  put-number-below t,
-  put-number.Post,
-) (put-number-at t) put-number.Post
-put-number-same-length-2 t c = put-length (put-then (c .before .before .before .before .before .before .put-number .ensures) (c .before .before .put-byte2 .ensures))
+  returns : put-number-lts.Need-returns claims put-number-at put-number.Post
+  returns c =
+      let put = c .before .before in
+      let small : Small = put .before .before in
+      rw (decimal-small _ (small .if1 .taken)) (put .put-byte .ensures)
 
-put-number-returns-2 : (t : ℕ) → put-number-lts.Need-returns-2 (
-  put-byte-reads.Asked,
-  put-byte-reads.Learnt,
-  put-number-below t,
-  put-number.Post,
-) (put-number-at t) put-number.Post
-put-number-returns-2 t c =
-    let front = c .before .before .before .before .before .before in
-    rw (decimal-more _ (front .before .before .if1 .left))
-    (put-then (front .put-number .ensures) (c .before .before .put-byte2 .ensures))
+  put-number-requires : put-number-lts.Need-put-number-requires claims put-number-at put-number.Post
+  put-number-requires c κs =
+      let start = c .before .before .before in
+      (omega (arith, start .pre), omega (arith, length-more (start .args .n) (c .before .if1 .left), start .pre))
+
+  add-put-byte-2 : put-number-lts.Need-add-put-byte-2 claims put-number-at put-number.Post
+  add-put-byte-2 c = omega arith
+
+  cast-put-byte-2 : put-number-lts.Need-cast-put-byte-2 claims put-number-at put-number.Post
+  cast-put-byte-2 c = omega arith
+
+  put-byte-requires-2 : put-number-lts.Need-put-byte-requires-2 claims put-number-at put-number.Post
+  put-byte-requires-2 c κs =
+      let front : Front = c .before .before .before in
+      let start = large-of front .before .before in
+      room-behind 1 (front .put-number .ensures)
+      (omega (arith, length-more (start .args .n) (large-of front .if1 .left), start .pre))
+
+  same-length-2 : put-number-lts.Need-same-length-2 claims put-number-at put-number.Post
+  same-length-2 c =
+      let put = c .before .before in
+      let front : Front = put .before .before .before .before in
+      put-length (put-then (front .put-number .ensures) (put .put-byte2 .ensures))
+
+  returns-2 : put-number-lts.Need-returns-2 claims put-number-at put-number.Post
+  returns-2 c =
+      let put = c .before .before in
+      let front : Front = put .before .before .before .before in
+      rw (decimal-more _ (large-of front .if1 .left)) (put-then (front .put-number .ensures) (put .put-byte2 .ensures))
 
 pub +put-number-spec : {M : Type 1} → statement M
-+put-number-spec = close μ-put-number λ t. put-number-lts.spec (
-  put-byte-reads.Asked,
-  put-byte-reads.Learnt,
-  put-number-below t,
-  put-number.Post,
-)
++put-number-spec =
+    close
+    μ-put-number
+    λ t. put-number-lts.spec
+    (claims t)
     (put-number-at t)
     put-number.Post
-    (put-number-add-put-byte t)
-    (put-number-cast-put-byte t)
-    (put-number-put-byte-requires t)
-    (put-number-same-length t)
-    (put-number-returns t)
-    (put-number-put-number-requires t)
-    (put-number-add-put-byte-2 t)
-    (put-number-cast-put-byte-2 t)
-    (put-number-put-byte-requires-2 t)
-    (put-number-same-length-2 t)
-    (put-number-returns-2 t)
+    (add-put-byte t)
+    (cast-put-byte t)
+    (put-byte-requires t)
+    (same-length t)
+    (returns t)
+    (put-number-requires t)
+    (add-put-byte-2 t)
+    (cast-put-byte-2 t)
+    (put-byte-requires-2 t)
+    (same-length-2 t)
+    (returns-2 t)

@@ -15,7 +15,10 @@ same-length : tie.Need-same-length
 same-length c = search needs
 
 returns : tie.Need-returns
-returns c = put-then (c .before .before .before .before .before .before .put-byte .ensures) (c .before .before .put-number .ensures)
+returns c =
+    let numbered = c .before .before in
+    let spaced = numbered .before .before .before .before in
+    put-then (spaced .put-byte .ensures) (numbered .put-number .ensures)
 
 pub put-field-spec : {M : Type 1} → statement M
 put-field-spec =

@@ -23,6 +23,13 @@ next moves old at new i v s h e =
     rw (e, ← List·getD-map letter moves i 0)
     (stored-more (map letter moves) old at new i (letter 0) s (omega (arith, length-map moves letter)))
 
+-- the places: the loop's head, its start, and the head from past a letter
+abbrev start-of : tie.At-loop Inv-loop μ-loop → tie.Start Inv-loop μ-loop
+start-of c = c .before .before .before
+
+abbrev head-of : tie.After-letter-of Inv-loop μ-loop → tie.At-loop Inv-loop μ-loop
+head-of c = c .before .before .before
+
 loop-holds : tie.Need-loop-holds Inv-loop μ-loop
 loop-holds c = stored-none (map letter (c .before .before .args .moves .now)) _ _
 
@@ -33,33 +40,35 @@ letter-of-requires : tie.Need-letter-of-requires Inv-loop μ-loop
 letter-of-requires c κs = tt
 
 add-out : tie.Need-add-out Inv-loop μ-loop
-add-out c = omega (arith, c .before .before .before .before .before .before .pre, c .before .before .before .before .before .before .good .1 .0)
+add-out c =
+    let start = start-of (head-of c) in
+    omega (arith, start .pre, start .good .1 .0)
 
 slice-write-out : tie.Need-slice-write-out Inv-loop μ-loop
-slice-write-out c = omega (arith, c .before .before .before .before .before .before .pre, c .before .before .before .loop .inv .size)
+slice-write-out c = omega (arith, start-of (head-of c) .pre, head-of c .loop .inv .size)
 
 add-i : tie.Need-add-i Inv-loop μ-loop
-add-i c = omega (arith, c .before .before .before .before .before .before .good .0)
+add-i c = omega (arith, start-of (head-of c) .good .0)
 
 loop-less : tie.Need-loop-less Inv-loop μ-loop
 loop-less c = omega arith
 
 loop-again : tie.Need-loop-again Inv-loop μ-loop
 loop-again c =
-    let loop = c .before .before .before in
-    next (loop .before .before .before .args .moves .now) _ _ _ _ _ (loop .loop .inv) (c .before .before .loop-test .taken) (c .letter-of .ensures)
+    let head = head-of c in
+    next (start-of head .args .moves .now) _ _ _ _ _ (head .loop .inv) (c .before .before .loop-test .taken) (c .letter-of .ensures)
 
 add-result : tie.Need-add-result Inv-loop μ-loop
 add-result c =
-    let s = c .before .before .before .before in
-    omega (arith, s .pre, s .good .1 .0, c .before .loop .inv .inside, length-map (s .args .moves .now) letter)
+    let start = start-of (c .before) in
+    omega (arith, start .pre, start .good .1 .0, c .before .loop .inv .inside, length-map (start .args .moves .now) letter)
 
 same-length : tie.Need-same-length Inv-loop μ-loop
 same-length c = c .before .loop .inv .size
 
 returns : tie.Need-returns Inv-loop μ-loop
 returns c =
-    let moves = c .before .before .before .before .args .moves .now in
+    let moves = start-of (c .before) .args .moves .now in
     stored-all (map letter moves) _ _ _ _ (c .before .loop .inv) (omega (arith, c .loop-test .left, length-map moves letter))
 
 pub put-moves-spec : {M : Type 1} → statement M

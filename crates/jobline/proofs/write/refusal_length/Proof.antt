@@ -54,7 +54,13 @@ add-result-3 c =
 returns : tie.Need-returns
 returns c =
     let a = c .before .before .before .args in
-    omega (arith, refused-length (a .number) (a .cell) (a .visits), c .places3 .ensures, c .before .places2 .ensures, c .before .before .places .ensures)
+    omega (
+      arith,
+      refused-length (a .number) (a .cell) (a .visits),
+      c .places3 .ensures,
+      c .before .places2 .ensures,
+      c .before .before .places .ensures,
+    )
 
 pub refusal-length-spec : {M : Type 1} → statement M
 refusal-length-spec =

@@ -1,15 +1,33 @@
 -- `write::write_plan` meets its contract: the opening, the letters, the line feed. The length was tested first, so each piece has room.
 -- Assumes nothing.
-use Prim.Native.Nat.{_≤_}
 use borrow.Author.Needs.{needs}
 use native.Mathlib.Omega.{arith}
-use mathlib.Core.Path.{ap}
-use lib.ListN.{length, length-append}
-use Rattle.jobline.specs.Line.{planWord, planLine}
-use Rattle.jobline.proofs.theory.Lines.{plan-pieces, plan-length, opening-length}
-use Rattle.jobline.proofs.code.Puts.{put-then, put-length, line-put, line-refused}
+use mathlib.Core.List.{[], _∷_}
+use lib.ListN.{length}
+use Rattle.jobline.specs.Numeral.{space, lineFeed}
+use Rattle.jobline.specs.Line.{letters, opening, planWord, planLine}
+use Rattle.jobline.proofs.theory.Lines.{plan-pieces}
+use Rattle.jobline.proofs.code.Puts.{InPieces, front-fits, middle-fits, end-fits, all-put, line-put, line-refused}
 use Rattle.jobline.proofs.write.write_plan.Statement.{statement}
 use Rattle.jobline.proofs.write.write_plan.Tie as tie
+
+-- the places: past the test, past the opening, past the letters
+abbrev start-of : tie.Else1 → tie.Start
+start-of c = c .before .before .before .before
+
+abbrev tested-of : tie.After-put-opening → tie.Else1
+tested-of c = c .before .before .before
+
+abbrev opened-of : tie.After-put-letters → tie.After-put-opening
+opened-of c = c .before .before .before .before
+
+-- the line in pieces; the test showed that it has room
+pieces : (c : tie.Else1) →
+    let a = start-of c .args in
+    InPieces (opening planWord (length (a .moves .now)) (a .visits)) (space ∷ letters (a .moves .now)) (lineFeed ∷ []) (planLine (a .visits) (a .moves .now)) (a .out .now)
+pieces c =
+    let a = start-of c .args in
+    record { joined = plan-pieces (a .visits) (a .moves .now); room = omega (arith, c .before .plan-length .ensures, c .if1 .left) }
 
 plan-length-requires : tie.Need-plan-length-requires
 plan-length-requires c κs = search needs
@@ -20,45 +38,19 @@ returns c = line-refused _ _ (rw (← c .before .plan-length .ensures) (c .if1 .
 slice-aggregate-put-opening : tie.Need-slice-aggregate-put-opening
 slice-aggregate-put-opening c = search needs
 
--- what the test showed
-has-room : (c : tie.Else1) → let s = c .before .before .before .before in length (planLine (s .args .visits) (s .args .moves .now)) ≤ length (s .args .out .now)
-has-room c = omega (arith, c .before .plan-length .ensures, c .if1 .left)
-
 put-opening-requires : tie.Need-put-opening-requires
-put-opening-requires c κs =
-    let tested = c .before .before in
-    let s = tested .before .before .before .before in
-    omega (arith, has-room tested, plan-length (s .args .visits) (s .args .moves .now), opening-length planWord (length (s .args .moves .now)) (s .args .visits))
+put-opening-requires c κs = front-fits (pieces (c .before .before))
 
 put-letters-requires : tie.Need-put-letters-requires
 put-letters-requires c κs =
     let opened = c .before .before .before in
-    let tested = opened .before .before .before in
-    let s = tested .before .before .before .before in
-    let p = opened .put-opening .ensures in
-    omega (
-      arith,
-      has-room tested,
-      plan-length (s .args .visits) (s .args .moves .now),
-      opening-length planWord (length (s .args .moves .now)) (s .args .visits),
-      p .end,
-      put-length p,
-    )
+    omega (arith, middle-fits (pieces (tested-of opened)) (opened .put-opening .ensures))
 
 put-byte-requires : tie.Need-put-byte-requires
 put-byte-requires c κs =
-    let spelled = c .before .before .before in
-    let opened = spelled .before .before .before .before in
-    let tested = opened .before .before .before in
-    let s = tested .before .before .before .before in
-    let p = put-then (opened .put-opening .ensures) (spelled .put-letters .ensures) in
-    omega (
-      arith,
-      has-room tested,
-      simp length-append at (ap length (plan-pieces (s .args .visits) (s .args .moves .now))),
-      simp length-append at (p .end),
-      put-length p,
-    )
+    let lettered = c .before .before .before in
+    let opened = opened-of lettered in
+    end-fits (pieces (tested-of opened)) (opened .put-opening .ensures) (lettered .put-letters .ensures)
 
 same-length : tie.Need-same-length
 same-length c = search needs
@@ -66,12 +58,10 @@ same-length c = search needs
 returns-2 : tie.Need-returns-2
 returns-2 c =
     let ended = c .before .before in
-    let spelled = ended .before .before .before .before in
-    let opened = spelled .before .before .before .before in
-    let tested = opened .before .before .before in
-    let s = tested .before .before .before .before in
-    let p = put-then (put-then (opened .put-opening .ensures) (spelled .put-letters .ensures)) (ended .put-byte .ensures) in
-    line-put (has-room tested) (rw (plan-pieces (s .args .visits) (s .args .moves .now)) at p)
+    let lettered = ended .before .before .before .before in
+    let opened = opened-of lettered in
+    let p = pieces (tested-of opened) in
+    line-put (p .room) (all-put p (opened .put-opening .ensures) (lettered .put-letters .ensures) (ended .put-byte .ensures))
 
 pub write-plan-spec : {M : Type 1} → statement M
 write-plan-spec =

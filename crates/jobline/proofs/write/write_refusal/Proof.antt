@@ -1,15 +1,32 @@
 -- `write::write_refusal` meets its contract: the opening, the visits, the line feed. The length was tested first, so each piece has room.
 -- Assumes nothing.
-use Prim.Native.Nat.{_≤_}
 use borrow.Author.Needs.{needs}
 use native.Mathlib.Omega.{arith}
-use mathlib.Core.Path.{ap}
-use lib.ListN.{length, length-append}
-use Rattle.jobline.specs.Line.{refusedWord, refusedLine}
-use Rattle.jobline.proofs.theory.Lines.{refused-pieces, refused-length, opening-length}
-use Rattle.jobline.proofs.code.Puts.{put-then, put-length, line-put, line-refused}
+use mathlib.Core.List.{[], _∷_}
+use Rattle.jobline.specs.Numeral.{space, lineFeed}
+use Rattle.jobline.specs.Line.{decimal, opening, refusedWord, refusedLine}
+use Rattle.jobline.proofs.theory.Lines.{refused-pieces}
+use Rattle.jobline.proofs.code.Puts.{InPieces, front-fits, middle-fits, end-fits, all-put, line-put, line-refused}
 use Rattle.jobline.proofs.write.write_refusal.Statement.{statement}
 use Rattle.jobline.proofs.write.write_refusal.Tie as tie
+
+-- the places: past the test, past the opening, past the visits
+abbrev start-of : tie.Else1 → tie.Start
+start-of c = c .before .before .before
+
+abbrev tested-of : tie.After-put-opening → tie.Else1
+tested-of c = c .before .before .before
+
+abbrev opened-of : tie.After-put-field → tie.After-put-opening
+opened-of c = c .before .before .before .before
+
+-- the line in pieces; the test showed that it has room
+pieces : (c : tie.Else1) →
+    let a = start-of c .args in
+    InPieces (opening refusedWord (a .number) (a .cell)) (space ∷ decimal (a .visits)) (lineFeed ∷ []) (refusedLine (a .number) (a .cell) (a .visits)) (a .out .now)
+pieces c =
+    let a = start-of c .args in
+    record { joined = refused-pieces (a .number) (a .cell) (a .visits); room = omega (arith, c .before .refusal-length .ensures, c .if1 .left) }
 
 refusal-length-requires : tie.Need-refusal-length-requires
 refusal-length-requires c κs = search needs
@@ -20,45 +37,19 @@ returns c = line-refused _ _ (rw (← c .before .refusal-length .ensures) (c .if
 slice-aggregate-put-opening : tie.Need-slice-aggregate-put-opening
 slice-aggregate-put-opening c = search needs
 
--- what the test showed
-has-room : (c : tie.Else1) → let s = c .before .before .before in length (refusedLine (s .args .number) (s .args .cell) (s .args .visits)) ≤ length (s .args .out .now)
-has-room c = omega (arith, c .before .refusal-length .ensures, c .if1 .left)
-
 put-opening-requires : tie.Need-put-opening-requires
-put-opening-requires c κs =
-    let tested = c .before .before in
-    let s = tested .before .before .before in
-    omega (arith, has-room tested, refused-length (s .args .number) (s .args .cell) (s .args .visits), opening-length refusedWord (s .args .number) (s .args .cell))
+put-opening-requires c κs = front-fits (pieces (c .before .before))
 
 put-field-requires : tie.Need-put-field-requires
 put-field-requires c κs =
     let opened = c .before .before .before in
-    let tested = opened .before .before .before in
-    let s = tested .before .before .before in
-    let p = opened .put-opening .ensures in
-    omega (
-      arith,
-      has-room tested,
-      refused-length (s .args .number) (s .args .cell) (s .args .visits),
-      opening-length refusedWord (s .args .number) (s .args .cell),
-      p .end,
-      put-length p,
-    )
+    omega (arith, middle-fits (pieces (tested-of opened)) (opened .put-opening .ensures))
 
 put-byte-requires : tie.Need-put-byte-requires
 put-byte-requires c κs =
-    let spelled = c .before .before .before in
-    let opened = spelled .before .before .before .before in
-    let tested = opened .before .before .before in
-    let s = tested .before .before .before in
-    let p = put-then (opened .put-opening .ensures) (spelled .put-field .ensures) in
-    omega (
-      arith,
-      has-room tested,
-      simp length-append at (ap length (refused-pieces (s .args .number) (s .args .cell) (s .args .visits))),
-      simp length-append at (p .end),
-      put-length p,
-    )
+    let visited = c .before .before .before in
+    let opened = opened-of visited in
+    end-fits (pieces (tested-of opened)) (opened .put-opening .ensures) (visited .put-field .ensures)
 
 same-length : tie.Need-same-length
 same-length c = search needs
@@ -66,12 +57,10 @@ same-length c = search needs
 returns-2 : tie.Need-returns-2
 returns-2 c =
     let ended = c .before .before in
-    let spelled = ended .before .before .before .before in
-    let opened = spelled .before .before .before .before in
-    let tested = opened .before .before .before in
-    let s = tested .before .before .before in
-    let p = put-then (put-then (opened .put-opening .ensures) (spelled .put-field .ensures)) (ended .put-byte .ensures) in
-    line-put (has-room tested) (rw (refused-pieces (s .args .number) (s .args .cell) (s .args .visits)) at p)
+    let visited = ended .before .before .before .before in
+    let opened = opened-of visited in
+    let p = pieces (tested-of opened) in
+    line-put (p .room) (all-put p (opened .put-opening .ensures) (visited .put-field .ensures) (ended .put-byte .ensures))
 
 pub write-refusal-spec : {M : Type 1} → statement M
 write-refusal-spec =
