@@ -115,7 +115,8 @@ module _ (text old new : List ℕ) (answer : Reading) (n : Numbers) (count : ℕ
   text-line out out′ r line = subst (λ (o : Option Job). LineAnswered (answerTo o) out r out′) (sym (of-text .is)) line
 
 pub malformed-line : (text old new : List ℕ) (answer : Reading) (out out′ : List ℕ) (r : ℕ)
-    → Answers (readJob text) old answer new → answer ≡ Malformed → LineAnswered (refusedLine 12 0 0) out r out′ → LineAnswered (answerTo (readJob text)) out r out′
+    → Answers (readJob text) old answer new → answer ≡ Malformed
+    → LineAnswered (refusedLine 12 0 0) out r out′ → LineAnswered (answerTo (readJob text)) out r out′
 unfolding answerTo
 malformed-line text old new answer out out′ r a e line = go (readJob text) refl
   where

@@ -41,10 +41,9 @@ module _ (text : List ℕ) (from : ℕ) (old : List ℕ) where
   taken-none = record { ns = []; size = refl; room = omega arith; front = refl; whole = joined-nil (cellsAt 32 text from) }
 
   module _ (cells : List ℕ) (at count : ℕ) (t : Taken text from old cells at count) where
-    pub taken-more : (v : ℕ) (m : Bool) (next : ℕ) → endsAt text at ≡ false → (count ≡ 32 → ⊥)
+    pub taken-more : (v : ℕ) (m : Bool) (next : ℕ) → endsAt text at ≡ false → count < 32
         → fieldAt false 255 text at ≡ Number v m next → Taken text from old (set cells count v) next (count + 1)
-    taken-more v m next e h f =
-        let below : count < 32 = omega (arith, t .room) in
+    taken-more v m next e below f =
         let step : 32 - count ≡ suc (32 - (count + 1)) = omega arith in
         record {
           ns = t .ns ++ v ∷ [];

@@ -17,6 +17,7 @@ use Rattle.jobline.specs.Grammar.{none as no-cells, more as one-more}
 use Rattle.jobline.specs.Scan.{byteAt, run, numberAt, minusAt, fieldAt, signedValue, nines, headOf, endsAt, prepend, cellsAt, readJob}
 use Rattle.jobline.specs.declared.read.NumberRead.{NumberRead}
 use Rattle.jobline.specs.declared.read.NumberRead.the-variants.{Number}
+use Rattle.jobline.specs.declared.read.Numbers.{Numbers}
 use Rattle.jobline.specs.declared.read.HeadRead.the-variants.{Sound as Whole}
 use Rattle.jobline.proofs.theory.Runs.{run-append, run-low, value-below, value-bound}
 use Rattle.jobline.proofs.theory.Places.{behind-byte, behind-field, first}
@@ -53,7 +54,8 @@ number-complete m most text at s v fs n h e =
     }
 
 -- the first byte of a number is no minus
-first-digit : (text : List ℕ) (at : ℕ) (s : List ℕ) (v : ℕ) (rest : List ℕ) → Numeral s v → drop at text ≡ s ++ rest → byteAt text at ≡ minusSign → ⊥
+first-digit : (text : List ℕ) (at : ℕ) (s : List ℕ) (v : ℕ) (rest : List ℕ) → Numeral s v → drop at text ≡ s ++ rest
+    → byteAt text at ≡ minusSign → ⊥
 first-digit text at [] v rest n e h = omega (arith, n .some)
 first-digit text at (b ∷ s) v rest n e h =
     omega (arith, n .digits .0, first text at b (s ++ rest) e)
@@ -140,28 +142,41 @@ cells-complete text (suc k) at ss ns (one-more {s = s} {n = v} {ss = ts} {ns = m
     cells-more text at k v false (r .next) (not-end text at (s ++ after ts) e) (r .is)
     ∙ ap (prepend v) (cells-complete text k (r .next) ts ms c (omega arith) (r .left))
 
--- a whole text
+-- a whole text: the fields that stand behind each one, and that each is read
 module _ (text : List ℕ) (job : Job) (s : Spells text job) where
-  width-read : ReadTo (numberAt false 255 text 0) text (job .numbers .width) false (s .heightText ∷ s .ceilingText ∷ s .budgetText ∷ s .pText ∷ s .qText ∷ s .cellTexts)
-  width-read = number-complete false 255 text 0 (s .widthText) (job .numbers .width) _ (s .width .number) (s .width .most) (s .whole)
+  abbrev n : Numbers
+  n = job .numbers
 
-  height-read : ReadTo (fieldAt false 255 text (width-read .next)) text (job .numbers .height) false (s .ceilingText ∷ s .budgetText ∷ s .pText ∷ s .qText ∷ s .cellTexts)
-  height-read = field-complete 255 text _ (s .heightText) (job .numbers .height) _ (s .height .number) (s .height .most) (width-read .left)
+  abbrev behind-p : List (List ℕ)
+  behind-p = s .qText ∷ s .cellTexts
 
-  ceiling-read : SignedTo text (height-read .next) (job .numbers .ceiling) (s .budgetText ∷ s .pText ∷ s .qText ∷ s .cellTexts)
-  ceiling-read = ceiling-complete text _ (s .ceilingText) (job .numbers .ceiling) _ (s .ceiling) (height-read .left)
+  abbrev behind-ceiling : List (List ℕ)
+  behind-ceiling = s .budgetText ∷ s .pText ∷ behind-p
 
-  budget-read : ReadTo (fieldAt false nines text (ceiling-read .read .next)) text (job .numbers .budget) false (s .pText ∷ s .qText ∷ s .cellTexts)
+  abbrev behind-width : List (List ℕ)
+  behind-width = s .heightText ∷ s .ceilingText ∷ behind-ceiling
+
+  width-read : ReadTo (numberAt false 255 text 0) text (n .width) false behind-width
+  width-read = number-complete false 255 text 0 (s .widthText) (n .width) _ (s .width .number) (s .width .most) (s .whole)
+
+  height-read : ReadTo (fieldAt false 255 text (width-read .next)) text (n .height) false (s .ceilingText ∷ behind-ceiling)
+  height-read = field-complete 255 text _ (s .heightText) (n .height) _ (s .height .number) (s .height .most) (width-read .left)
+
+  ceiling-read : SignedTo text (height-read .next) (n .ceiling) behind-ceiling
+  ceiling-read = ceiling-complete text _ (s .ceilingText) (n .ceiling) _ (s .ceiling) (height-read .left)
+
+  budget-read : ReadTo (fieldAt false nines text (ceiling-read .read .next)) text (n .budget) false (s .pText ∷ behind-p)
   budget-read =
-      field-complete nines text _ (s .budgetText) (job .numbers .budget) _ (s .budget) (nine (s .budgetText) (job .numbers .budget) (s .budget)) (ceiling-read .read .left)
+      let most = nine (s .budgetText) (n .budget) (s .budget) in
+      field-complete nines text _ (s .budgetText) (n .budget) _ (s .budget) most (ceiling-read .read .left)
 
-  p-read : ReadTo (fieldAt false 255 text (budget-read .next)) text (job .numbers .p) false (s .qText ∷ s .cellTexts)
-  p-read = field-complete 255 text _ (s .pText) (job .numbers .p) _ (s .p .number) (s .p .most) (budget-read .left)
+  p-read : ReadTo (fieldAt false 255 text (budget-read .next)) text (n .p) false behind-p
+  p-read = field-complete 255 text _ (s .pText) (n .p) _ (s .p .number) (s .p .most) (budget-read .left)
 
-  q-read : ReadTo (fieldAt false 255 text (p-read .next)) text (job .numbers .q) false (s .cellTexts)
-  q-read = field-complete 255 text _ (s .qText) (job .numbers .q) _ (s .q .number) (s .q .most) (p-read .left)
+  q-read : ReadTo (fieldAt false 255 text (p-read .next)) text (n .q) false (s .cellTexts)
+  q-read = field-complete 255 text _ (s .qText) (n .q) _ (s .q .number) (s .q .most) (p-read .left)
 
-  head-complete : headOf text ≡ Whole (job .numbers) (q-read .next)
+  head-complete : headOf text ≡ Whole n (q-read .next)
   unfolding headOf
   head-complete =
       rw (

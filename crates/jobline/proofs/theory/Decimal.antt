@@ -27,7 +27,8 @@ digits-same zero j n h g = digits-small 0 n (omega arith) ∙ sym (digits-small 
 digits-same (suc k) zero n h g = digits-small (suc k) n (omega arith) ∙ sym (digits-small 0 n (omega arith))
 digits-same (suc k) (suc j) n h g = go (ltb n 10) refl (digits-same k j (n / 10))
   where
-    go : (t : Bool) → ltb n 10 ≡ t → (n / 10 ≤ k → n / 10 ≤ j → digitsOf k (n / 10) ≡ digitsOf j (n / 10)) → digitsOf (suc k) n ≡ digitsOf (suc j) n
+    go : (t : Bool) → ltb n 10 ≡ t → (n / 10 ≤ k → n / 10 ≤ j → digitsOf k (n / 10) ≡ digitsOf j (n / 10))
+        → digitsOf (suc k) n ≡ digitsOf (suc j) n
     go true e ih = digits-small (suc k) n (ltb-true n 10 e) ∙ sym (digits-small (suc j) n (ltb-true n 10 e))
     go false e ih =
         let h′ : 10 ≤ n = ltb-false n 10 e in
@@ -74,7 +75,9 @@ value-append [] t v = refl
 value-append (b ∷ s) t v = value-append s t (v * 10 + (b - 48))
 
 pub decimal-digits : (n : ℕ) → Digits (decimal n)
-decimal-digits n = by-digits (λ n s. Digits s) (λ n h. (omega arith, tt)) (λ n h d. digits-append (decimal (n / 10)) ((48 + n % 10) ∷ []) d (omega arith, tt)) n
+decimal-digits n =
+    by-digits (λ n s. Digits s) (λ n h. (omega arith, tt))
+    (λ n h d. digits-append (decimal (n / 10)) ((48 + n % 10) ∷ []) d (omega arith, tt)) n
 
 pub decimal-value : (n : ℕ) → valueOf (decimal n) ≡ n
 decimal-value n =

@@ -21,8 +21,11 @@ job ceiling =
     jobOf (record { width = 2; height = 2; ceiling = ceiling; budget = 7; p = 1; q = 1 }) (3 ∷ 2 ∷ 1 ∷ 0 ∷ [])
 
 -- 6, -1, -0, 000000006 are ceilings; ten digits, two minuses and an empty field are not
-pub texts : map readJob
-    (map jobText ((54 ∷ []) ∷ (45 ∷ 49 ∷ []) ∷ (45 ∷ 48 ∷ []) ∷ (replicate 8 48 ++ 54 ∷ []) ∷ (replicate 9 48 ++ 54 ∷ []) ∷ (45 ∷ 45 ∷ 49 ∷ []) ∷ [] ∷ []))
+abbrev ceilings : List (List ℕ)
+ceilings =
+    (54 ∷ []) ∷ (45 ∷ 49 ∷ []) ∷ (45 ∷ 48 ∷ []) ∷ (replicate 8 48 ++ 54 ∷ []) ∷ (replicate 9 48 ++ 54 ∷ []) ∷ (45 ∷ 45 ∷ 49 ∷ []) ∷ [] ∷ []
+
+pub texts : map readJob (map jobText ceilings)
     ≡ some (job (pos 6)) ∷ some (job (negsuc 0)) ∷ some (job (pos 0)) ∷ some (job (pos 6)) ∷ none ∷ none ∷ none ∷ []
 unfolding readJob headOf cellsAt endsAt fieldAt signedAt minusAt numberAt run isDigit
 texts = refl

@@ -81,7 +81,8 @@ module _ (visits : ℕ) (few : visits ≤ 1000000) where
 answer-short : (a : Answer) (moves : List ℕ) → Small a → length (lineOf a moves) ≤ 138
 unfolding lineOf
 answer-short (Planned pl) moves small =
-    plan-short (pl .visits) (small .visits-most) (take (pl .length) moves) (omega (arith, length-take (pl .length) moves, small .length-most))
+    plan-short (pl .visits) (small .visits-most) (take (pl .length) moves)
+    (omega (arith, length-take (pl .length) moves, small .length-most))
 answer-short (Refused r) moves small =
     let numbered : refusalNumber r ≤ 14 = omega (arith, small .number-most) in
     let placed : refusalCell r ≤ 32 = omega (arith, small .cell-most) in

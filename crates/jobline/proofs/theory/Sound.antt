@@ -13,7 +13,8 @@ use borrow.Author.Tests.{leb-true, eqb-true}
 use Rattle.jobline.specs.Numeral.{space, lineFeed, minusSign, Numeral}
 use Rattle.jobline.specs.Grammar.{Job, after, Small, Signed, plain, minus, Smalls, Spells}
 use Rattle.jobline.specs.Grammar.{none as no-cells, more as one-more}
-use Rattle.jobline.specs.Scan.{byteAt, numberAt, minusAt, signedAt, fieldAt, signedValue, behind, nines, headOf, endsAt, prepend, cellsAt, withCells, behindHead, readJob}
+use Rattle.jobline.specs.Scan.{byteAt, numberAt, minusAt, signedAt, fieldAt, signedValue, behind, nines, headOf}
+use Rattle.jobline.specs.Scan.{endsAt, prepend, cellsAt, withCells, behindHead, readJob}
 use Rattle.jobline.specs.declared.read.NumberRead.{NumberRead}
 use Rattle.jobline.specs.declared.read.NumberRead.the-variants.{Number, Bad}
 use Rattle.jobline.specs.declared.read.Numbers.{Numbers}
@@ -45,7 +46,9 @@ number-sound m₀ most text at v m next e =
         record { digits = run-digits rest; some = omega (arith, f .some); few = omega (arith, f .few); value = f .value },
         f .small,
       );
-      split = sym (take-append-drop k rest) ∙ ap (λ (l : List ℕ). take k rest ++ l) (drop-drop k at text ∙ ap (λ (n : ℕ). drop n text) (f .end));
+      split =
+          sym (take-append-drop k rest)
+          ∙ ap (λ (l : List ℕ). take k rest ++ l) (drop-drop k at text ∙ ap (λ (n : ℕ). drop n text) (f .end));
     }
 
 field-sound : (most : ℕ) (text : List ℕ) (at v : ℕ) (m : Bool) (next : ℕ)
@@ -99,6 +102,10 @@ onward : {A : Type 0} (P : A → Type 0) (stop : A) (r : NumberRead) (go : ℕ �
 onward P stop Bad go s f = s
 onward P stop (Number v m next) go s f = f v m next refl
 
+-- six fields, each but the first behind a space, and then what is left
+abbrev six : (w h c b p q rest : List ℕ) → List ℕ
+six w h c b p q rest = w ++ (space ∷ h ++ (space ∷ c ++ (space ∷ b ++ (space ∷ p ++ (space ∷ q ++ rest)))))
+
 -- the six fields before the cells, and what is left behind them
 record Opened (text : List ℕ) (numbers : Numbers) (next : ℕ) : Type 0 where
   widthText : List ℕ
@@ -113,8 +120,7 @@ record Opened (text : List ℕ) (numbers : Numbers) (next : ℕ) : Type 0 where
   budget : Numeral budgetText (numbers .budget)
   p : Small pText (numbers .p)
   q : Small qText (numbers .q)
-  split : text ≡ widthText
-      ++ (space ∷ heightText ++ (space ∷ ceilingText ++ (space ∷ budgetText ++ (space ∷ pText ++ (space ∷ qText ++ drop next text)))))
+  split : text ≡ six widthText heightText ceilingText budgetText pText qText (drop next text)
 
 abbrev OpenedBy : List ℕ → HeadRead → Type 0
 OpenedBy text Broken = Unit {0}
@@ -194,8 +200,8 @@ cells-sound zero text at = go (endsAt text at) refl
     go false e = tt
 cells-sound (suc k) text at = go (endsAt text at) refl (λ next. cells-sound k text next)
   where
-    onto : (v : ℕ) (m : Bool) (next : ℕ) → fieldAt false 255 text at ≡ Number v m next → (found : Option (List ℕ)) → ClosedBy k text next found
-        → ClosedBy (suc k) text at (prepend v found)
+    onto : (v : ℕ) (m : Bool) (next : ℕ) → fieldAt false 255 text at ≡ Number v m next
+        → (found : Option (List ℕ)) → ClosedBy k text next found → ClosedBy (suc k) text at (prepend v found)
     onto v m next e none c = tt
     onto v m next e (some ns) c =
         let n = field-sound 255 text at v m next e in
@@ -210,7 +216,8 @@ cells-sound (suc k) text at = go (endsAt text at) refl (λ next. cells-sound k t
         → ClosedBy (suc k) text at (cond t (some []) (behind none (fieldAt false 255 text at) λ v _ next. prepend v (cellsAt k text next)))
     go true e ih = ended (suc k) text at e
     go false e ih =
-        onward (ClosedBy (suc k) text at) none (fieldAt false 255 text at) _ tt λ v m next f. onto v m next f (cellsAt k text next) (ih next)
+        onward (ClosedBy (suc k) text at) none (fieldAt false 255 text at) _ tt
+        λ v m next f. onto v m next f (cellsAt k text next) (ih next)
 
 -- a whole text
 abbrev SpeltBy : List ℕ → Option Job → Type 0
@@ -231,9 +238,7 @@ whole text numbers next (some ns) h o c =
       cellTexts = c .ss;
       whole =
           o .split
-          ∙ ap
-          (λ (l : List ℕ). o .widthText ++ (space ∷ o .heightText ++ (space ∷ o .ceilingText ++ (space ∷ o .budgetText ++ (space ∷ o .pText ++ (space ∷ o .qText ++ l))))))
-          (c .split);
+          ∙ ap (six (o .widthText) (o .heightText) (o .ceilingText) (o .budgetText) (o .pText) (o .qText)) (c .split);
       short = h;
       width = o .width;
       height = o .height;

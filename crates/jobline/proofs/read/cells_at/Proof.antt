@@ -1,6 +1,6 @@
 -- `read::cells_at` meets its contract: the loop keeps `Taken`, and each return is one case of `cellsAt`. The measure is the room that
 -- is left. Assumes nothing.
-use Prim.Native.Nat.{_-_, _≤_}
+use Prim.Native.Nat.{_-_, _<_}
 use borrow.Author.Needs.{needs}
 use native.Mathlib.Omega.{arith}
 use mathlib.Core.Path.{_≡_, sym, _∙_}
@@ -52,8 +52,9 @@ number-read : (c : Known) →
     fieldAt false 255 (head .before .before .args .text .now) (head .loop .at) ≡ Number (told .0) (told .1 .0) (told .1 .1 .0)
 number-read c = sym (field-of c .field-at .ensures) ∙ c .before .value .given .1
 
-room : (c : Known) → head-of (onward-of (field-of c)) .loop .count ≤ 32
-room c = head-of (onward-of (field-of c)) .loop .inv .room
+-- a cell is taken only where fewer than 32 were taken before it
+fewer : (c : Known) → head-of (onward-of (field-of c)) .loop .count < 32
+fewer c = omega (arith, head-of (onward-of (field-of c)) .loop .inv .room, field-of c .before .if2 .left)
 
 loop-holds : tie.Need-loop-holds Inv-loop μ-loop
 loop-holds c = taken-none _ _ _
@@ -88,19 +89,18 @@ cast-cells : tie.Need-cast-cells Inv-loop μ-loop
 cast-cells c = omega (arith, field-small false 255 _ _ _ _ _ (number-read c))
 
 element-write-cells : tie.Need-element-write-cells Inv-loop μ-loop
-element-write-cells c = omega (arith, room c)
+element-write-cells c = omega (arith, fewer c)
 
 add-count : tie.Need-add-count Inv-loop μ-loop
-add-count c = omega (arith, room c)
+add-count c = omega (arith, fewer c)
 
 loop-less : tie.Need-loop-less Inv-loop μ-loop
-loop-less c = omega (arith, room c)
+loop-less c = omega (arith, fewer c)
 
 loop-again : tie.Need-loop-again Inv-loop μ-loop
 loop-again c =
-    let full = field-of c .before in
     let onward = onward-of (field-of c) in
-    taken-more _ _ _ _ _ _ (head-of onward .loop .inv) _ _ _ (not-ended onward) (full .if2 .left) (number-read c)
+    taken-more _ _ _ _ _ _ (head-of onward .loop .inv) _ _ _ (not-ended onward) (fewer c) (number-read c)
 
 pub cells-at-spec : {M : Type 1} → statement M
 cells-at-spec =

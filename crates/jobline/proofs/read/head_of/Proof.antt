@@ -2,7 +2,7 @@
 -- known, each from the next, and what the definition finds there; then the needs. Assumes nothing.
 use Prim.Native.Nat.{ℕ}
 use borrow.Author.Needs.{needs}
-use mathlib.Core.Bool.{true, false}
+use mathlib.Core.Bool.{Bool, true, false}
 use mathlib.Core.List.{List}
 use mathlib.Core.Path.{_≡_, sym, _∙_}
 use mir.Syntax.{w32}
@@ -34,38 +34,50 @@ p-before c = c .before .before .before .before
 abbrev text-of : tie.After-width → List ℕ
 text-of c = c .before .before .before .before .args .text .now
 
+-- the number that a match tells of, and the place behind it
+abbrev Told : Type 0
+Told = ℕ × (Bool × (ℕ × Unit {0}))
+
+abbrev number : Told → NumberRead
+number told = Number (told .0) (told .1 .0) (told .1 .1 .0)
+
+abbrev behind : Told → ℕ
+behind told = told .1 .1 .0
+
 -- what the definition finds there: what a call ensures of its result, and what the match says of it
 found : {r asked told : NumberRead} → r ≡ asked → r ≡ told → asked ≡ told
 found e f = sym e ∙ f
 
-width-found : (c : tie.After-width) →
-    let told = c .width .given .0 in
-    numberAt false 255 (text-of c) 0 ≡ Number (told .0) (told .1 .0) (told .1 .1 .0)
+width-found : (c : tie.After-width) → numberAt false 255 (text-of c) 0 ≡ number (c .width .given .0)
 width-found c = found (c .before .before .number-at .ensures) (c .width .given .1)
 
 height-found : (c : tie.After-height) →
-    let told = c .height .given .0 in
-    fieldAt false 255 (text-of (width-before c)) (width-before c .width .given .0 .1 .1 .0) ≡ Number (told .0) (told .1 .0) (told .1 .1 .0)
+    let width = width-before c in
+    fieldAt false 255 (text-of width) (behind (width .width .given .0)) ≡ number (c .height .given .0)
 height-found c = found (c .before .before .field-at .ensures) (c .height .given .1)
 
 size-found : (c : tie.After-size) →
-    let told = c .size .given .0 in
-    fieldAt true nines (text-of (width-before (height-before c))) (height-before c .height .given .0 .1 .1 .0) ≡ Number (told .0) (told .1 .0) (told .1 .1 .0)
+    let height = height-before c in
+    let width = width-before height in
+    fieldAt true nines (text-of width) (behind (height .height .given .0)) ≡ number (c .size .given .0)
 size-found c = found (c .before .before .field-at2 .ensures) (c .size .given .1)
 
 budget-found : (c : tie.After-budget) →
-    let told = c .budget .given .0 in
-    fieldAt false nines (text-of (width-before (height-before (size-before c)))) (size-before c .size .given .0 .1 .1 .0) ≡ Number (told .0) (told .1 .0) (told .1 .1 .0)
+    let size = size-before c in
+    let width = width-before (height-before size) in
+    fieldAt false nines (text-of width) (behind (size .size .given .0)) ≡ number (c .budget .given .0)
 budget-found c = found (c .before .before .field-at3 .ensures) (c .budget .given .1)
 
 p-found : (c : tie.After-p) →
-    let told = c .p .given .0 in
-    fieldAt false 255 (text-of (width-before (height-before (size-before (budget-before c))))) (budget-before c .budget .given .0 .1 .1 .0) ≡ Number (told .0) (told .1 .0) (told .1 .1 .0)
+    let budget = budget-before c in
+    let width = width-before (height-before (size-before budget)) in
+    fieldAt false 255 (text-of width) (behind (budget .budget .given .0)) ≡ number (c .p .given .0)
 p-found c = found (c .before .before .field-at4 .ensures) (c .p .given .1)
 
 q-found : (c : tie.After-q) →
-    let told = c .q .given .0 in
-    fieldAt false 255 (text-of (width-before (height-before (size-before (budget-before (p-before c)))))) (p-before c .p .given .0 .1 .1 .0) ≡ Number (told .0) (told .1 .0) (told .1 .1 .0)
+    let p = p-before c in
+    let width = width-before (height-before (size-before (budget-before p))) in
+    fieldAt false 255 (text-of width) (behind (p .p .given .0)) ≡ number (c .q .given .0)
 q-found c = found (c .before .before .field-at5 .ensures) (c .q .given .1)
 
 number-at-requires : tie.Need-number-at-requires

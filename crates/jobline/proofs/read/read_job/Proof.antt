@@ -58,7 +58,9 @@ no-cells text n next old new e h = refused text old (e ∙ rw (uncounted (cellsA
 abbrev text-of : tie.After-numbers → List ℕ
 text-of h = h .before .before .before .before .before .args .text .now
 
-head-is : (h : tie.After-numbers) → readJob (text-of h) ≡ behindHead (text-of h) (Sound (h .numbers .given .0 .0) (h .numbers .given .0 .1 .0))
+head-is : (h : tie.After-numbers) →
+    let told = h .numbers .given .0 in
+    readJob (text-of h) ≡ behindHead (text-of h) (Sound (told .0) (told .1 .0))
 head-is h =
     let tested = h .before .before .before in
     read-is _ _ (tested .if1 .left) (sym (h .before .before .head-of .ensures) ∙ h .numbers .given .1)

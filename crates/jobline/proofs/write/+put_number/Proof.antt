@@ -42,6 +42,9 @@ module _ (t : ℕ) where
   abbrev large-of : Front → Large
   large-of c = c .before .before
 
+  abbrev front-of : put-number-lts.After-put-byte2 claims put-number-at put-number.Post → Front
+  front-of c = c .before .before .before .before
+
   add-put-byte : put-number-lts.Need-add-put-byte claims put-number-at put-number.Post
   add-put-byte c = omega arith
 
@@ -83,13 +86,13 @@ module _ (t : ℕ) where
   same-length-2 : put-number-lts.Need-same-length-2 claims put-number-at put-number.Post
   same-length-2 c =
       let put = c .before .before in
-      let front : Front = put .before .before .before .before in
+      let front = front-of put in
       put-length (put-then (front .put-number .ensures) (put .put-byte2 .ensures))
 
   returns-2 : put-number-lts.Need-returns-2 claims put-number-at put-number.Post
   returns-2 c =
       let put = c .before .before in
-      let front : Front = put .before .before .before .before in
+      let front = front-of put in
       rw (decimal-more _ (large-of front .if1 .left)) (put-then (front .put-number .ensures) (put .put-byte2 .ensures))
 
 pub +put-number-spec : {M : Type 1} → statement M

@@ -13,9 +13,10 @@ use Rattle.jobline.proofs.write.plan_length.Tie as tie
 -- both numbers have few digits
 few-places : (c : tie.Start)
     → (length (decimal (length (c .args .moves .now))) ≤ 20) × (length (decimal (c .args .visits)) ≤ 10)
-few-places c =
-    let a = c .args in
-    (decimal-length (length (a .moves .now)) 19 (omega (arith, c .good .1 .0 .0)), decimal-length (a .visits) 9 (omega (arith, c .fits .visits)))
+few-places c = (
+  decimal-length (length (c .args .moves .now)) 19 (omega (arith, c .good .1 .0 .0)),
+  decimal-length (c .args .visits) 9 (omega (arith, c .fits .visits)),
+)
 
 -- the places: past the first number's places, past the second's, past the letters
 abbrev start-of : tie.After-places → tie.Start

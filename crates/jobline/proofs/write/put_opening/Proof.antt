@@ -20,7 +20,8 @@ word-of c = c .before .before .before .before
 -- the opening in pieces
 pieces : (c : tie.Start) →
     let a = c .args in
-    InPieces (a .word .now) (space ∷ decimal (a .first)) (space ∷ decimal (a .second)) (opening (a .word .now) (a .first) (a .second)) (a .out .now)
+    let word = a .word .now in
+    InPieces word (space ∷ decimal (a .first)) (space ∷ decimal (a .second)) (opening word (a .first) (a .second)) (a .out .now)
 pieces c = record { joined = refl; room = c .pre }
 
 put-word-requires : tie.Need-put-word-requires

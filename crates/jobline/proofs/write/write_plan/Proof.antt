@@ -24,7 +24,9 @@ opened-of c = c .before .before .before .before
 -- the line in pieces; the test showed that it has room
 pieces : (c : tie.Else1) →
     let a = start-of c .args in
-    InPieces (opening planWord (length (a .moves .now)) (a .visits)) (space ∷ letters (a .moves .now)) (lineFeed ∷ []) (planLine (a .visits) (a .moves .now)) (a .out .now)
+    let moves = a .moves .now in
+    let line = planLine (a .visits) moves in
+    InPieces (opening planWord (length moves) (a .visits)) (space ∷ letters moves) (lineFeed ∷ []) line (a .out .now)
 pieces c =
     let a = start-of c .args in
     record { joined = plan-pieces (a .visits) (a .moves .now); room = omega (arith, c .before .plan-length .ensures, c .if1 .left) }

@@ -23,10 +23,14 @@ opened-of c = c .before .before .before .before
 -- the line in pieces; the test showed that it has room
 pieces : (c : tie.Else1) →
     let a = start-of c .args in
-    InPieces (opening refusedWord (a .number) (a .cell)) (space ∷ decimal (a .visits)) (lineFeed ∷ []) (refusedLine (a .number) (a .cell) (a .visits)) (a .out .now)
+    let line = refusedLine (a .number) (a .cell) (a .visits) in
+    InPieces (opening refusedWord (a .number) (a .cell)) (space ∷ decimal (a .visits)) (lineFeed ∷ []) line (a .out .now)
 pieces c =
     let a = start-of c .args in
-    record { joined = refused-pieces (a .number) (a .cell) (a .visits); room = omega (arith, c .before .refusal-length .ensures, c .if1 .left) }
+    record {
+      joined = refused-pieces (a .number) (a .cell) (a .visits);
+      room = omega (arith, c .before .refusal-length .ensures, c .if1 .left);
+    }
 
 refusal-length-requires : tie.Need-refusal-length-requires
 refusal-length-requires c κs = search needs
