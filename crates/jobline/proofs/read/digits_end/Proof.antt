@@ -18,10 +18,6 @@ Inv-loop text at i₀ i = i + run (drop i text) ≡ at + run (drop at text)
 abbrev μ-loop : tie.MeasureT-loop
 μ-loop text at i₀ i = length text - i
 
--- nothing more is counted where no digit stands
-stops : (text : List ℕ) (i n : ℕ) → i + run (drop i text) ≡ n → run (drop i text) ≡ 0 → i ≡ n
-stops text i n e z = omega arith
-
 -- the places of a turn, and what stands there: the byte that was read, and what is left behind it
 abbrev Head : Type 0
 Head = tie.At-loop Inv-loop μ-loop
@@ -38,6 +34,13 @@ here : (c : Inside) →
     drop i text ≡ getD text i 0 ∷ drop (suc i) text
 here c = drop-cons (text-of (c .before)) (c .before .loop .i) 0 (c .loop-test .taken)
 
+-- where no digit stands nothing more is counted
+stops : (c : Head) →
+    let text = text-of c in
+    let at = c .before .args .at in
+    run (drop (c .loop .i) text) ≡ 0 → c .loop .i ≡ at + run (drop at text)
+stops c none = omega (arith, c .loop .inv, none)
+
 loop-holds : tie.Need-loop-holds Inv-loop μ-loop
 loop-holds c = refl
 
@@ -47,12 +50,12 @@ shared-slice-read-b c = omega arith
 returns : tie.Need-returns Inv-loop μ-loop
 returns c =
     let turn = c .before .before in
-    stops (text-of (turn .before)) (turn .before .loop .i) _ (turn .before .loop .inv) (rw (here turn) (run-low _ _ (c .if1 .taken)))
+    stops (turn .before) (rw (here turn) (run-low _ _ (c .if1 .taken)))
 
 returns-2 : tie.Need-returns-2 Inv-loop μ-loop
 returns-2 c =
     let turn = c .before .before .before in
-    stops (text-of (turn .before)) (turn .before .loop .i) _ (turn .before .loop .inv) (rw (here turn) (run-high _ _ (c .if2 .taken)))
+    stops (turn .before) (rw (here turn) (run-high _ _ (c .if2 .taken)))
 
 add-i : tie.Need-add-i Inv-loop μ-loop
 add-i c = omega arith
@@ -69,9 +72,7 @@ loop-again c =
     rw add-one (omega (arith, turn .before .loop .inv))
 
 returns-3 : tie.Need-returns-3 Inv-loop μ-loop
-returns-3 c =
-    let text = text-of (c .before) in
-    stops text (c .before .loop .i) _ (c .before .loop .inv) (rw (drop-of-length-le text (c .loop-test .left)) run-nil)
+returns-3 c = stops (c .before) (rw (drop-of-length-le (text-of (c .before)) (c .loop-test .left)) run-nil)
 
 pub digits-end-spec : {M : Type 1} → statement M
 digits-end-spec =

@@ -54,16 +54,25 @@ no-cells : (text : List ℕ) (n : Numbers) (next : ℕ) (old new : List ℕ) →
     → Counted (cellsAt 32 text next) old Uncounted new → Answers (readJob text) old Malformed old
 no-cells text n next old new e h = refused text old (e ∙ rw (uncounted (cellsAt 32 text next) old new h))
 
--- where the numbers are known: the text that they were read from, and what was read so far
-abbrev text-of : tie.After-numbers → List ℕ
-text-of h = h .before .before .before .before .before .args .text .now
+-- past the code's test the text is short enough
+abbrev text-at : tie.Else1 → List ℕ
+text-at c = c .before .before .args .text .now
+
+short : (c : tie.Else1) → length (text-at c) ≤ 256
+short c = omega (arith, c .if1 .left)
+
+-- where the numbers are known, from past the cells; there the definition has read as much
+abbrev tested-of : tie.After-numbers → tie.Else1
+tested-of h = h .before .before .before
+
+abbrev known-of : tie.After-cells-at → tie.After-numbers
+known-of c = c .before .before .before .before
 
 head-is : (h : tie.After-numbers) →
     let told = h .numbers .given .0 in
-    readJob (text-of h) ≡ behindHead (text-of h) (Sound (told .0) (told .1 .0))
-head-is h =
-    let tested = h .before .before .before in
-    read-is _ _ (tested .if1 .left) (sym (h .before .before .head-of .ensures) ∙ h .numbers .given .1)
+    let text = text-at (tested-of h) in
+    readJob text ≡ behindHead text (Sound (told .0) (told .1 .0))
+head-is h = read-is _ _ (short (tested-of h)) (sym (h .before .before .head-of .ensures) ∙ h .numbers .given .1)
 
 returns : tie.Need-returns
 returns c = refused _ _ (too-long _ (c .if1 .taken))
@@ -80,7 +89,7 @@ enum-told c = search needs
 returns-2 : tie.Need-returns-2
 returns-2 c =
     let tested = c .before .before .before in
-    refused _ _ (read-is _ Broken (tested .if1 .left) (sym (c .before .before .head-of .ensures) ∙ c .enum-told .given .1))
+    refused _ _ (read-is _ Broken (short tested) (sym (c .before .before .head-of .ensures) ∙ c .enum-told .given .1))
 
 cells-at-requires : tie.Need-cells-at-requires
 cells-at-requires c κs = search needs
@@ -93,15 +102,13 @@ enum-told-2 c = search needs
 
 returns-3 : tie.Need-returns-3
 returns-3 c =
-    let counted = c .before .before in
-    let head = counted .before .before .before .before in
-    no-cells _ _ _ _ _ (head-is head) (rw (c .enum-told2 .given .1) at (counted .cells-at .ensures))
+    let taken = c .before .before in
+    no-cells _ _ _ _ _ (head-is (known-of taken)) (rw (c .enum-told2 .given .1) at (taken .cells-at .ensures))
 
 returns-4 : tie.Need-returns-4
 returns-4 c =
-    let called = c .before .before .before in
-    let head = called .before .before .before .before in
-    answered _ _ _ _ _ _ (head-is head) (counted _ _ _ _ (rw (c .before .count .given .1) at (called .cells-at .ensures)))
+    let taken = c .before .before .before in
+    answered _ _ _ _ _ _ (head-is (known-of taken)) (counted _ _ _ _ (rw (c .before .count .given .1) at (taken .cells-at .ensures)))
 
 pub read-job-spec : {M : Type 1} → statement M
 read-job-spec =

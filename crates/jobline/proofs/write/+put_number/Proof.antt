@@ -1,10 +1,12 @@
 -- `write::put_number` meets its contract: the digits of the tenth and then the last digit, as `decimal` has them. It ends since the
 -- tenth is less. Assumes nothing.
-use Prim.Native.Nat.{ℕ, _<_}
+use Prim.Native.Nat.{ℕ, _+_, _/_, _%_, _<_}
 use native.Mathlib.Omega.{arith}
-use mathlib.Core.Path.{ap}
-use lib.ListN.{length}
-use Rattle.jobline.proofs.theory.Decimal.{decimal-small, decimal-more, length-more}
+use mathlib.Core.Path.{_≡_, ap}
+use mathlib.Core.List.{[], _∷_, _++_}
+use lib.ListN.{length, length-append}
+use Rattle.jobline.specs.Line.{decimal}
+use Rattle.jobline.proofs.theory.Decimal.{decimal-small, decimal-more}
 use Rattle.jobline.proofs.code.Puts.{put-then, put-length, room-behind}
 use borrow.Fn.Kinds.{In}
 use borrow.Fn.PlainCycle.{Measures, is, falls, and}
@@ -42,6 +44,23 @@ module _ (t : ℕ) where
   abbrev large-of : Front → Large
   large-of c = c .before .before
 
+  -- the code's test is the definition's: one digit below ten, and from ten on the digits of the tenth first
+  one-digit : (c : Small) →
+      let n = c .before .before .args .n in
+      decimal n ≡ (48 + n) ∷ []
+  one-digit c = decimal-small _ (omega (arith, c .if1 .taken))
+
+  more-digits : (c : Large) →
+      let n = c .before .before .args .n in
+      decimal n ≡ decimal (n / 10) ++ (48 + n % 10) ∷ []
+  more-digits c = decimal-more _ (omega (arith, c .if1 .left))
+
+  -- so there is one more than the tenth has
+  one-longer : (c : Large) →
+      let n = c .before .before .args .n in
+      length (decimal (n / 10)) + 1 ≡ length (decimal n)
+  one-longer c = rw (more-digits c, length-append)
+
   abbrev front-of : put-number-lts.After-put-byte2 claims put-number-at put-number.Post → Front
   front-of c = c .before .before .before .before
 
@@ -53,8 +72,8 @@ module _ (t : ℕ) where
 
   put-byte-requires : put-number-lts.Need-put-byte-requires claims put-number-at put-number.Post
   put-byte-requires c κs =
-      let start = c .before .before .before in
-      omega (arith, ap length (decimal-small (start .args .n) (c .before .if1 .taken)), start .pre)
+      let small : Small = c .before in
+      omega (arith, ap length (one-digit small), small .before .before .pre)
 
   same-length : put-number-lts.Need-same-length claims put-number-at put-number.Post
   same-length c = put-length (c .before .before .put-byte .ensures)
@@ -63,12 +82,13 @@ module _ (t : ℕ) where
   returns c =
       let put = c .before .before in
       let small : Small = put .before .before in
-      rw (decimal-small _ (small .if1 .taken)) (put .put-byte .ensures)
+      rw (one-digit small) (put .put-byte .ensures)
 
   put-number-requires : put-number-lts.Need-put-number-requires claims put-number-at put-number.Post
   put-number-requires c κs =
-      let start = c .before .before .before in
-      (omega (arith, start .pre), omega (arith, length-more (start .args .n) (c .before .if1 .left), start .pre))
+      let large : Large = c .before in
+      let start = large .before .before in
+      (omega (arith, start .pre), omega (arith, one-longer large, start .pre))
 
   add-put-byte-2 : put-number-lts.Need-add-put-byte-2 claims put-number-at put-number.Post
   add-put-byte-2 c = omega arith
@@ -79,9 +99,7 @@ module _ (t : ℕ) where
   put-byte-requires-2 : put-number-lts.Need-put-byte-requires-2 claims put-number-at put-number.Post
   put-byte-requires-2 c κs =
       let front : Front = c .before .before .before in
-      let start = large-of front .before .before in
-      room-behind 1 (front .put-number .ensures)
-      (omega (arith, length-more (start .args .n) (large-of front .if1 .left), start .pre))
+      room-behind 1 (front .put-number .ensures) (omega (arith, one-longer (large-of front), large-of front .before .before .pre))
 
   same-length-2 : put-number-lts.Need-same-length-2 claims put-number-at put-number.Post
   same-length-2 c =
@@ -93,7 +111,7 @@ module _ (t : ℕ) where
   returns-2 c =
       let put = c .before .before in
       let front = front-of put in
-      rw (decimal-more _ (large-of front .if1 .left)) (put-then (front .put-number .ensures) (put .put-byte2 .ensures))
+      rw (more-digits (large-of front)) (put-then (front .put-number .ensures) (put .put-byte2 .ensures))
 
 pub +put-number-spec : {M : Type 1} → statement M
 +put-number-spec =
