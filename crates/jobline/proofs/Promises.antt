@@ -21,7 +21,7 @@ use Rattle.jobline.proofs.theory.Stores.{take-stored}
 use Rattle.jobline.proofs.theory.Sound.{sound}
 use Rattle.jobline.proofs.theory.Complete.{complete}
 use Rattle.jobline.proofs.theory.Decimal.{decimal-digits, decimal-small, decimal-value, decimal-first}
-use Rattle.jobline.proofs.theory.Lines.{line-short}
+use Rattle.jobline.proofs.theory.Short.{line-short}
 
 -- a text of the grammar is read to its numbers, and nothing else is read
 pub read-exactly : (text : List ℕ) (job : Job) → (readJob text ≡ some job) ↔ Spells text job

@@ -9,4 +9,5 @@ pub mod Complete
 pub mod Stores
 pub mod Decimal
 pub mod Lines
+pub mod Short
 pub mod Examples

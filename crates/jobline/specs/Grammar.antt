@@ -8,7 +8,7 @@ use lib.IntN.{ℤ, pos, negℤ}
 use Rattle.jobline.specs.Numeral.{space, lineFeed, minusSign, Numeral}
 use Rattle.jobline.specs.declared.read.Numbers.{Numbers}
 
--- a job: width, height, ceiling, budget, p and q, and then the cells
+-- a job: its six numbers width, height, ceiling, budget, p and q, as the code has them, and then its cells
 pub record Job : Type 0 where
   pub numbers : Numbers
   pub cells : List ℕ

@@ -104,6 +104,7 @@ cellsAt zero text at = cond (endsAt text at) (some []) none
 cellsAt (suc k) text at =
     cond (endsAt text at) (some []) (behind none (fieldAt false 255 text at) λ v _ next. prepend v (cellsAt k text next))
 
+-- a job where its cells were read behind its numbers, and none where either was not
 abbrev pub withCells : Numbers → Option (List ℕ) → Option Job
 withCells numbers none = none
 withCells numbers (some cells) = some (jobOf numbers cells)

@@ -29,7 +29,7 @@ pub fn answer_line(text: &[u8], out: &mut [u8]) -> usize
     }
 }
 
-// The program keeps a table of 484 numbers and 120 move bytes, both zeroed first.
+// Answers a job. The program keeps a table of 484 numbers and 120 move bytes, both zeroed first.
 fn answer_job(numbers: Numbers, cells: &[u8], out: &mut [u8]) -> usize
     ensures { λ r. ⌜ LineAnswered (answerTo (some (jobOf numbers (now (cells .entry))))) (now (out .entry)) r (now (out .exit)) ⌝ }
 {
