@@ -5,14 +5,13 @@ use mathlib.Core.Path.{_≡_, refl, sym, ap, subst, _∙_}
 use mathlib.Core.List.{List}
 use mathlib.Core.Option.{Option, none, some}
 use native.Mathlib.Omega.{arith}
-use lib.IntN.{ℤ}
-use lib.ListN.{length, take, replicate}
+use lib.ListN.{length, take}
 use lib.Seq.{length-sets}
 use Rattle.planner.specs.declared.Plan.{Plan}
 use Rattle.planner.specs.declared.Refusal.{Refusal}
 use Rattle.planner.specs.declared.Answer.{Answer}
 use Rattle.planner.specs.declared.Answer.the-variants.{Planned, Refused}
-use Rattle.planner.specs.Answer.{Call, called, answered, Settles, number, cell, visits, planLength}
+use Rattle.planner.specs.Answer.{Call, answered, Settles, number, cell, visits, planLength}
 use Rattle.jobline.specs.declared.read.Numbers.{Numbers}
 use Rattle.jobline.specs.declared.read.Reading.{Reading}
 use Rattle.jobline.specs.declared.read.Reading.the-variants.{Job as JobRead, Malformed}
@@ -21,7 +20,7 @@ use Rattle.jobline.specs.Scan.{readJob}
 use Rattle.jobline.specs.Held.{answerOf, cellsOf, Answers}
 use Rattle.jobline.specs.Line.{planLine, refusedLine}
 use Rattle.jobline.specs.Put.{LineAnswered}
-use Rattle.jobline.specs.Answer.{lineOf, leftLine, answerTo}
+use Rattle.jobline.specs.Answer.{lineOf, leftLine, callFor, answerTo}
 use Rattle.planner.proofs.Small.{Small, answered-small}
 use Rattle.jobline.proofs.theory.Stores.{take-stored}
 use Rattle.jobline.proofs.theory.Sound.{sound}
@@ -61,20 +60,14 @@ small-enough c a moves table settled long =
     let small : Small a = subst Small (sym (settled .answer)) (answered-small c) in
     (omega (arith, small .length-most), small .cell-most)
 
--- the call that was made has the job's inputs; its ceiling was handed on as the same number
-abbrev handed : Numbers → List ℕ → ℤ → Call
-handed n cells ceiling =
-    called (n .width) (n .height) cells ceiling (n .budget) (n .p) (n .q) (replicate 120 0) (replicate 484 0)
-
-pub job-line : (n : Numbers) (cells : List ℕ) (y : ℤ) (a : Answer) (moves table old new : List ℕ) (r : ℕ) → y ≡ n .ceiling
-    → Settles (answered (handed n cells y)) a moves table → LineAnswered (lineOf a moves) old r new
-    → LineAnswered (answerTo (some (jobOf n cells))) old r new
+-- the line of what the planner left for the job's call
+pub job-line : (job : Job) (a : Answer) (moves table old new : List ℕ) (r : ℕ) → Settles (answered (callFor job)) a moves table
+    → LineAnswered (lineOf a moves) old r new → LineAnswered (answerTo (some job)) old r new
 unfolding answerTo
-job-line n cells y a moves table old new r same settled line =
-    subst (λ (l : List ℕ). LineAnswered l old r new) (both ∙ ap (λ (z : ℤ). leftLine (answered (handed n cells z))) same) line
+job-line job a moves table old new r settled line = subst (λ (l : List ℕ). LineAnswered l old r new) same line
   where
-    both : lineOf a moves ≡ leftLine (answered (handed n cells y))
-    both = ap (λ (x : Answer). lineOf x moves) (settled .answer) ∙ ap (lineOf (answered (handed n cells y) .answer)) (settled .moves)
+    same : lineOf a moves ≡ leftLine (answered (callFor job))
+    same = ap (λ (x : Answer). lineOf x moves) (settled .answer) ∙ ap (lineOf (answered (callFor job) .answer)) (settled .moves)
 
 -- ---- the job of a text
 

@@ -33,6 +33,9 @@ record InText (P : List ℕ → Type 0) (front : List ℕ → List ℕ) (text : 
 abbrev Within : ℕ → ℕ → List ℕ → Type 0
 Within most v s = Numeral s v × (v ≤ most)
 
+small : {s : List ℕ} {v : ℕ} → Within 255 v s → Small s v
+small w = record { number = w .0; most = w .1 }
+
 number-sound : (m₀ : Bool) (most : ℕ) (text : List ℕ) (at v : ℕ) (m : Bool) (next : ℕ)
     → numberAt m₀ most text at ≡ Number v m next → InText (Within most v) (λ s. s) text at next
 number-sound m₀ most text at v m next e =
@@ -102,32 +105,23 @@ onward : {A : Type 0} (P : A → Type 0) (stop : A) (r : NumberRead) (go : ℕ �
 onward P stop Bad go s f = s
 onward P stop (Number v m next) go s f = f v m next refl
 
--- six fields, each but the first behind a space, and then what is left
-abbrev six : (w h c b p q rest : List ℕ) → List ℕ
-six w h c b p q rest = w ++ (space ∷ h ++ (space ∷ c ++ (space ∷ b ++ (space ∷ p ++ (space ∷ q ++ rest)))))
-
--- the six fields before the cells, and what is left behind them
-record Opened (text : List ℕ) (numbers : Numbers) (next : ℕ) : Type 0 where
-  widthText : List ℕ
-  heightText : List ℕ
-  ceilingText : List ℕ
-  budgetText : List ℕ
-  pText : List ℕ
-  qText : List ℕ
-  width : Small widthText (numbers .width)
-  height : Small heightText (numbers .height)
-  ceiling : Signed ceilingText (numbers .ceiling)
-  budget : Numeral budgetText (numbers .budget)
-  p : Small pText (numbers .p)
-  q : Small qText (numbers .q)
-  split : text ≡ six widthText heightText ceilingText budgetText pText qText (drop next text)
+-- the six fields before the cells, each from its place to the next
+record Opened (text : List ℕ) (n : Numbers) (next : ℕ) : Type 0 where
+  atHeight : ℕ
+  atCeiling : ℕ
+  atBudget : ℕ
+  atP : ℕ
+  atQ : ℕ
+  width : InText (Within 255 (n .width)) (λ s. s) text 0 atHeight
+  height : InText (Within 255 (n .height)) (λ s. space ∷ s) text atHeight atCeiling
+  ceiling : InText (λ s. Signed s (n .ceiling)) (λ s. space ∷ s) text atCeiling atBudget
+  budget : InText (Within nines (n .budget)) (λ s. space ∷ s) text atBudget atP
+  p : InText (Within 255 (n .p)) (λ s. space ∷ s) text atP atQ
+  q : InText (Within 255 (n .q)) (λ s. space ∷ s) text atQ next
 
 abbrev OpenedBy : List ℕ → HeadRead → Type 0
 OpenedBy text Broken = Unit {0}
 OpenedBy text (Whole numbers next) = Opened text numbers next
-
-along : (x : List ℕ) {y z : List ℕ} → y ≡ z → x ++ y ≡ x ++ z
-along x e = ap (λ (l : List ℕ). x ++ l) e
 
 head-sound : (text : List ℕ) → OpenedBy text (headOf text)
 unfolding headOf
@@ -138,31 +132,18 @@ head-sound text =
     onward (OpenedBy text) Broken (fieldAt false nines text d) _ tt λ budget m₄ e e₄.
     onward (OpenedBy text) Broken (fieldAt false 255 text e) _ tt λ p m₅ f e₅.
     onward (OpenedBy text) Broken (fieldAt false 255 text f) _ tt λ q m₆ g e₆.
-    let W = number-sound false 255 text 0 w m₁ a e₁ in
-    let H = field-sound 255 text a h m₂ b e₂ in
-    let C = ceiling-sound nines text b c m₃ d e₃ in
-    let B = field-sound nines text d budget m₄ e e₄ in
-    let P = field-sound 255 text e p m₅ f e₅ in
-    let Q = field-sound 255 text f q m₆ g e₆ in
     record {
-      widthText = W .s;
-      heightText = H .s;
-      ceilingText = C .s;
-      budgetText = B .s;
-      pText = P .s;
-      qText = Q .s;
-      width = record { number = W .spelled .0; most = W .spelled .1 };
-      height = record { number = H .spelled .0; most = H .spelled .1 };
-      ceiling = C .spelled;
-      budget = B .spelled .0;
-      p = record { number = P .spelled .0; most = P .spelled .1 };
-      q = record { number = Q .spelled .0; most = Q .spelled .1 };
-      split =
-          W .split
-          ∙ along (W .s)
-          (H .split
-          ∙ along (space ∷ H .s)
-          (C .split ∙ along (space ∷ C .s) (B .split ∙ along (space ∷ B .s) (P .split ∙ along (space ∷ P .s) (Q .split)))));
+      atHeight = a;
+      atCeiling = b;
+      atBudget = d;
+      atP = e;
+      atQ = f;
+      width = number-sound false 255 text 0 w m₁ a e₁;
+      height = field-sound 255 text a h m₂ b e₂;
+      ceiling = ceiling-sound nines text b c m₃ d e₃;
+      budget = field-sound nines text d budget m₄ e e₄;
+      p = field-sound 255 text e p m₅ f e₅;
+      q = field-sound 255 text f q m₆ g e₆;
     }
 
 -- the text ends there
@@ -207,7 +188,7 @@ cells-sound (suc k) text at = go (endsAt text at) refl (λ next. cells-sound k t
         let n = field-sound 255 text at v m next e in
         record {
           ss = n .s ∷ c .ss;
-          cells = one-more (record { number = n .spelled .0; most = n .spelled .1 }) (c .cells);
+          cells = one-more (small (n .spelled)) (c .cells);
           count = omega (arith, c .count);
           split = n .split ∙ ap (λ (l : List ℕ). (space ∷ n .s) ++ l) (c .split);
         }
@@ -224,28 +205,37 @@ abbrev SpeltBy : List ℕ → Option Job → Type 0
 SpeltBy text none = Unit {0}
 SpeltBy text (some job) = Spells text job
 
+along : (x : List ℕ) {y z : List ℕ} → y ≡ z → x ++ y ≡ x ++ z
+along x e = ap (λ (l : List ℕ). x ++ l) e
+
 whole : (text : List ℕ) (numbers : Numbers) (next : ℕ) (found : Option (List ℕ)) → length text ≤ 256 → Opened text numbers next
     → ClosedBy 32 text next found → SpeltBy text (withCells numbers found)
 whole text numbers next none h o c = tt
 whole text numbers next (some ns) h o c =
     record {
-      widthText = o .widthText;
-      heightText = o .heightText;
-      ceilingText = o .ceilingText;
-      budgetText = o .budgetText;
-      pText = o .pText;
-      qText = o .qText;
+      widthText = o .width .s;
+      heightText = o .height .s;
+      ceilingText = o .ceiling .s;
+      budgetText = o .budget .s;
+      pText = o .p .s;
+      qText = o .q .s;
       cellTexts = c .ss;
       whole =
-          o .split
-          ∙ ap (six (o .widthText) (o .heightText) (o .ceilingText) (o .budgetText) (o .pText) (o .qText)) (c .split);
+          o .width .split
+          ∙ along (o .width .s)
+          (o .height .split
+          ∙ along (space ∷ o .height .s)
+          (o .ceiling .split
+          ∙ along (space ∷ o .ceiling .s)
+          (o .budget .split
+          ∙ along (space ∷ o .budget .s) (o .p .split ∙ along (space ∷ o .p .s) (o .q .split ∙ along (space ∷ o .q .s) (c .split))))));
       short = h;
-      width = o .width;
-      height = o .height;
-      ceiling = o .ceiling;
-      budget = o .budget;
-      p = o .p;
-      q = o .q;
+      width = small (o .width .spelled);
+      height = small (o .height .spelled);
+      ceiling = o .ceiling .spelled;
+      budget = o .budget .spelled .0;
+      p = small (o .p .spelled);
+      q = small (o .q .spelled);
       cells = c .cells;
       count = c .count;
     }

@@ -3,7 +3,9 @@
 use borrow.Author.Needs.{needs}
 use denote.Ref.{now}
 use mir.Syntax.{w32}
+use mir.Val.{SFits}
 use mir.ValLaws.{toZ-ofZ}
+use Rattle.jobline.specs.Grammar.{jobOf}
 use Rattle.jobline.proofs.code.Answering.{small-enough, job-line}
 use Rattle.jobline.proofs.answer.answer_job.Statement.{statement}
 use Rattle.jobline.proofs.answer.answer_job.Tie as tie
@@ -34,8 +36,10 @@ returns c =
     let planned = written .before .before .before .before .before in
     let given = planned .before in
     let a = given .before .before .before .before .before .args in
-    let same = toZ-ofZ w32 _ (record { sfits = given .struct-told .given .1 .1 .0 .1 }) in
-    job-line (a .numbers) (now (a .cells)) _ _ _ _ _ _ _ same (planned .plan .ensures) (written .write-answer .ensures)
+    -- the ceiling was handed on as the same number
+    let fits : SFits w32 (a .numbers .ceiling) = record { sfits = given .struct-told .given .1 .1 .0 .1 } in
+    let settled = rw (toZ-ofZ w32 (a .numbers .ceiling) fits) at (planned .plan .ensures) in
+    job-line (jobOf (a .numbers) (now (a .cells))) _ _ _ _ _ _ settled (written .write-answer .ensures)
 
 pub answer-job-spec : {M : Type 1} → statement M
 answer-job-spec =

@@ -1,10 +1,11 @@
 -- `read::cells_at` meets its contract: the loop keeps `Taken`, and each return is one case of `cellsAt`. The measure is the room that
 -- is left. Assumes nothing.
-use Prim.Native.Nat.{_-_, _<_}
+use Prim.Native.Nat.{ℕ, _-_, _<_}
 use borrow.Author.Needs.{needs}
 use native.Mathlib.Omega.{arith}
 use mathlib.Core.Path.{_≡_, sym, _∙_}
 use mathlib.Core.Bool.{false}
+use mathlib.Core.List.{List}
 use Rattle.jobline.specs.Scan.{fieldAt, endsAt}
 use Rattle.jobline.specs.declared.read.NumberRead.the-variants.{Number}
 use Rattle.jobline.proofs.theory.Fields.{field-small}
@@ -41,15 +42,18 @@ head-of c = c .before .before
 abbrev field-of : Known → FieldRead
 field-of c = c .before .before .before
 
+abbrev text-of : Head → List ℕ
+text-of c = c .before .before .args .text .now
+
 -- past the test the text does not end
-not-ended : (c : Onward) → endsAt (head-of c .before .before .args .text .now) (head-of c .loop .at) ≡ false
+not-ended : (c : Onward) → endsAt (text-of (head-of c)) (head-of c .loop .at) ≡ false
 not-ended c = sym (c .before .ends-at .ensures) ∙ c .if1 .left
 
 -- the field that was read there
 number-read : (c : Known) →
     let head = head-of (onward-of (field-of c)) in
     let told = c .before .value .given .0 in
-    fieldAt false 255 (head .before .before .args .text .now) (head .loop .at) ≡ Number (told .0) (told .1 .0) (told .1 .1 .0)
+    fieldAt false 255 (text-of head) (head .loop .at) ≡ Number (told .0) (told .1 .0) (told .1 .1 .0)
 number-read c = sym (field-of c .field-at .ensures) ∙ c .before .value .given .1
 
 -- a cell is taken only where fewer than 32 were taken before it
