@@ -21,7 +21,7 @@ use Rattle.jobline.specs.Held.{answerOf, cellsOf, Answers}
 use Rattle.jobline.specs.Line.{planLine, refusedLine}
 use Rattle.jobline.specs.Put.{LineAnswered}
 use Rattle.jobline.specs.Answer.{lineOf, leftLine, callFor, answerTo}
-use Rattle.planner.proofs.Small.{Small, answered-small}
+use Rattle.planner.proofs.theory.Small.{Small, answered-small}
 use Rattle.jobline.proofs.theory.Stores.{take-stored}
 use Rattle.jobline.proofs.theory.Sound.{sound}
 

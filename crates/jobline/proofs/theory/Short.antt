@@ -9,7 +9,7 @@ use lib.ListN.{length, take, length-take}
 use Rattle.planner.specs.declared.Answer.{Answer}
 use Rattle.planner.specs.declared.Answer.the-variants.{Planned, Refused}
 use Rattle.planner.specs.Answer.{answered, refusalNumber, refusalCell, refusalVisits}
-use Rattle.planner.proofs.Small.{Small, answered-small}
+use Rattle.planner.proofs.theory.Small.{Small, answered-small}
 use Rattle.jobline.specs.Grammar.{Job}
 use Rattle.jobline.specs.Line.{decimal, planLine, refusedLine}
 use Rattle.jobline.specs.Answer.{lineOf, callFor, answerTo}
