@@ -1,5 +1,7 @@
 // Answers many stored texts by the job program's own function: standard input holds the texts one after the other, each behind its
-// length (two bytes, low byte first), and each answer line goes to standard output.
+// length (two bytes, low byte first), and each answer line goes to standard output. The file stdin ends with jobs of all nine shapes,
+// lines of tests/vectors/jobs-base.txt with the answers that stand there: of each shape a plan at weight 1 over 1, a plan at another
+// weight, and a refusal 10, 11 and 9.
 use jobline::answer::answer_line;
 use libc::STDIN_FILENO;
 use libc::STDOUT_FILENO;

@@ -1,6 +1,11 @@
-// Plans the boards that document 01 works by hand, and its boundary cases, on buffers that hold noise. A line for each: the answer's
-// number, cell, length and visits; the plan's letters, `-` for none; whether the first 4 × (ceiling + 1) table numbers are all 0
-// afterwards; and whether everything else in both buffers is as it was. The file stdout has what each line must be.
+// Plans the boards that document 01 works by hand, and its boundary cases; then the jobs of standard input, boards of all nine shapes.
+// The buffers hold noise. A line for each: the answer's number, cell, length and visits; the plan's letters, `-` for none; whether the
+// first 4 × (ceiling + 1) table numbers are all 0 afterwards; and whether everything else in both buffers is as it was. The file stdout
+// has what each line must be.
+//
+// The file stdin has the jobs as the job program reads them, a line each: lines of tests/vectors/jobs-base.txt, which has their answers
+// too. Of each shape a plan at weight 1 over 1, a plan at another weight, and a refusal 10, 11 and 9.
+use libc::STDIN_FILENO;
 use libc::STDOUT_FILENO;
 use planner::Answer;
 use planner::call::plan;
@@ -233,9 +238,96 @@ fn order_of_tests() {
     show(2, 2, &[0, 2, 1, 3], 120, 1000000, 1, 1, 484);
 }
 
+// Plans the next job of standard input. No where there is none.
+fn show_next() -> bool {
+    let width = next_number();
+    let height = next_number();
+    let count = cell_count(width, height);
+    if count == 0 {
+        return false;
+    }
+    let mut cells = [0u8; 16];
+    show_job(width, height, &mut cells[..count]);
+    true
+}
+
+// The rest of a job, whose cells fill the buffer.
+fn show_job(width: u32, height: u32, cells: &mut [u8]) {
+    let ceiling = next_number() as i32;
+    let budget = next_number();
+    let p = next_number();
+    let q = next_number();
+    read_cells(cells);
+    show(width, height, cells, ceiling, budget, p, q, 484);
+}
+
+// How many cells a cabinet has; 0 for sides that none has.
+fn cell_count(width: u32, height: u32) -> usize
+    ensures { λ r. ⌜ r ≤ 16 ⌝ }
+{
+    if 4 < width || 4 < height {
+        return 0;
+    }
+    width as usize * height as usize
+}
+
+fn read_cells(cells: &mut [u8]) {
+    let mut i = 0;
+    while i < cells.len() {
+        cells[i] = next_cell();
+        i += 1;
+    }
+}
+
+fn next_cell() -> u8 {
+    (next_number() % 256) as u8
+}
+
+// The next number, and one byte behind it. No number of a job is above 1,000,000.
+fn next_number() -> u32
+    ensures { λ r. ⌜ r ≤ 10000009 ⌝ }
+{
+    let mut n: u32 = 0;
+    let mut turns: u64 = 10;
+    while turns > 0 {
+        let d = next_digit();
+        if 9 < d {
+            return n;
+        }
+        if 1000000 < n {
+            return n;
+        }
+        n = 10 * n + d;
+        turns -= 1;
+    }
+    n
+}
+
+// The next byte as a digit: 10 for what is none, and at the end.
+fn next_digit() -> u32 {
+    let mut one = [0u8; 1];
+    io::read_full(STDIN_FILENO, &mut one);
+    digit(one[0])
+}
+
+fn digit(byte: u8) -> u32 {
+    if byte < b'0' || b'9' < byte {
+        return 10;
+    }
+    (byte - b'0') as u32
+}
+
+fn jobs() {
+    let mut turns: u64 = 1000;
+    while turns > 0 && show_next() {
+        turns -= 1;
+    }
+}
+
 fn main() {
     worked();
     boundaries();
     order_of_tests();
     show_short(2, 2, &[3, 2, 1, 0], 6, 7);
+    jobs();
 }
