@@ -19,7 +19,10 @@ legal-requires : tie.Need-legal-requires Inv-loop μ-loop
 legal-requires c κs = search needs
 
 after-requires : tie.Need-after-requires Inv-loop μ-loop
-after-requires c κs = (c .before .before .before .before .pre, sym (c .before .legal .ensures) ∙ c .if1 .taken)
+after-requires c κs =
+    let asked = c .before in
+    let start = asked .before .before .before in
+    (start .pre, sym (asked .legal .ensures) ∙ c .if1 .taken)
 
 print-cells-requires : tie.Need-print-cells-requires Inv-loop μ-loop
 print-cells-requires c κs = search needs

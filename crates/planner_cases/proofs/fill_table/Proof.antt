@@ -20,7 +20,10 @@ noise-number-requires : tie.Need-noise-number-requires Inv-loop μ-loop
 noise-number-requires c κs = search needs
 
 mul-table : tie.Need-mul-table Inv-loop μ-loop
-mul-table c = omega (arith, c .before .before .before .before .good .0 .1)
+mul-table c =
+    let loop = c .before .before in
+    let start = loop .before .before in
+    omega (arith, start .good .0 .1)
 
 slice-write-table : tie.Need-slice-write-table Inv-loop μ-loop
 slice-write-table c = search needs

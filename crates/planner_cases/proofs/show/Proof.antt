@@ -26,8 +26,10 @@ array-borrow-prefix-table c = search needs
 
 slice-aggregate-plan-2 : tie.Need-slice-aggregate-plan-2
 slice-aggregate-plan-2 c =
-    let start = c .before .before .before .before .before .before .before .before .before in
-    sym (length-take-le _ _ (omega (arith, start .pre, c .before .before .before .fill-table .kept .0)))
+    let table-filled = c .before .before .before in
+    let moves-filled = table-filled .before .before .before in
+    let start = moves-filled .before .before .before in
+    sym (length-take-le _ _ (omega (arith, start .pre, table-filled .fill-table .kept .0)))
 
 plan-requires : tie.Need-plan-requires
 plan-requires c κs = search needs
