@@ -5,7 +5,11 @@
 //
 // The file stdin has the jobs as the job program reads them, a line each: lines of tests/vectors/jobs-base.txt, which has their answers
 // too. Of each shape a plan at weight 1 over 1, a plan at another weight, and a refusal 10, 11 and 9.
-use libc::STDIN_FILENO;
+
+mod input;
+
+use crate::input::next_number;
+use crate::input::read_cells;
 use libc::STDOUT_FILENO;
 use planner::Answer;
 use planner::call::plan;
@@ -271,52 +275,7 @@ fn cell_count(width: u32, height: u32) -> usize
     width as usize * height as usize
 }
 
-fn read_cells(cells: &mut [u8]) {
-    let mut i = 0;
-    while i < cells.len() {
-        cells[i] = next_cell();
-        i += 1;
-    }
-}
-
-fn next_cell() -> u8 {
-    (next_number() % 256) as u8
-}
-
-// The next number, and one byte behind it. No number of a job is above 1,000,000.
-fn next_number() -> u32
-    ensures { λ r. ⌜ r ≤ 10000009 ⌝ }
-{
-    let mut n: u32 = 0;
-    let mut turns: u64 = 10;
-    while turns > 0 {
-        let d = next_digit();
-        if 9 < d {
-            return n;
-        }
-        if 1000000 < n {
-            return n;
-        }
-        n = 10 * n + d;
-        turns -= 1;
-    }
-    n
-}
-
-// The next byte as a digit: 10 for what is none, and at the end.
-fn next_digit() -> u32 {
-    let mut one = [0u8; 1];
-    io::read_full(STDIN_FILENO, &mut one);
-    digit(one[0])
-}
-
-fn digit(byte: u8) -> u32 {
-    if byte < b'0' || b'9' < byte {
-        return 10;
-    }
-    (byte - b'0') as u32
-}
-
+// Plans every job of standard input.
 fn jobs() {
     let mut turns: u64 = 1000;
     while turns > 0 && show_next() {

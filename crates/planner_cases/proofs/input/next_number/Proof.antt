@@ -1,9 +1,9 @@
--- `planner_cases::next_number` meets its contract and ends: a digit is put behind at most 1,000,000, and the turns that are left fall.
+-- `planner_cases::input::next_number` meets its contract and ends: a digit is put behind at most 1,000,000, and the turns that are left fall.
 -- Assumes nothing.
 use Prim.Native.Nat.{_≤_}
 use borrow.Author.Needs.{needs}
-use Rattle.planner_cases.proofs.next_number.Statement.{statement}
-use Rattle.planner_cases.proofs.next_number.Tie as tie
+use Rattle.planner_cases.proofs.input.next_number.Statement.{statement}
+use Rattle.planner_cases.proofs.input.next_number.Tie as tie
 
 abbrev Inv-loop : tie.InvT-loop
 Inv-loop n₀ turns₀ n turns = n ≤ 10000009

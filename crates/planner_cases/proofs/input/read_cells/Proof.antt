@@ -1,11 +1,11 @@
--- `planner_cases::read_cells` is safe and ends: the measure is what is left to fill, and the length stays. Assumes nothing.
+-- `planner_cases::input::read_cells` is safe and ends: the measure is what is left to fill, and the length stays. Assumes nothing.
 use Prim.Native.Nat.{_-_}
 use mathlib.Core.Path.{_≡_, refl}
 use native.Mathlib.Omega.{arith}
 use lib.ListN.{length, length-set}
 use borrow.Author.Needs.{needs}
-use Rattle.planner_cases.proofs.read_cells.Statement.{statement}
-use Rattle.planner_cases.proofs.read_cells.Tie as tie
+use Rattle.planner_cases.proofs.input.read_cells.Statement.{statement}
+use Rattle.planner_cases.proofs.input.read_cells.Tie as tie
 
 abbrev Inv-loop : tie.InvT-loop
 Inv-loop cells₀ i₀ cells i = length cells ≡ length cells₀
