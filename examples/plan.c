@@ -23,7 +23,7 @@ static const struct job jobs[] = {
 
 static const char *reason(enum lowpengine_result number) {
     switch (number) {
-    case LOWPENGINE_PLAN: return "none, there is a plan";
+    case LOWPENGINE_DONE: return "not refused";
     case LOWPENGINE_BAD_SHAPE: return "no cabinet has this shape";
     case LOWPENGINE_BAD_LENGTH: return "too many or too few cells";
     case LOWPENGINE_BAD_VALUE: return "no such tray";
@@ -64,7 +64,7 @@ static void plan(const struct job *job) {
 
     printf("%s:\n", job->name);
     show(job, job->board);
-    if (number == LOWPENGINE_PLAN)
+    if (number == LOWPENGINE_DONE)
         printf("%u slides, %u visits made\n", (unsigned)lowpengine_length(answer), (unsigned)lowpengine_visits(answer));
     else if (number == LOWPENGINE_BAD_VALUE || number == LOWPENGINE_REPEATED_VALUE)
         printf("refused at cell %u: %s\n", (unsigned)lowpengine_cell(answer), reason(number));
@@ -73,7 +73,7 @@ static void plan(const struct job *job) {
 
     for (uint32_t slide = 1; slide <= lowpengine_length(answer); slide++) {
         uint64_t played = lowpengine_play(job->width, job->height, job->board, n, moves, slide, board, sizeof board);
-        if (lowpengine_number(played) != LOWPENGINE_PLAYED) {
+        if (lowpengine_number(played) != LOWPENGINE_DONE) {
             printf("slide %u: %s\n", (unsigned)lowpengine_place(played) + 1, reason(lowpengine_number(played)));
             return;
         }

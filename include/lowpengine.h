@@ -2,7 +2,7 @@
  * lowpengine.h: planner and player for sliding tray cabinets of 2 by 2 to 4 by 4 cells.
  *
  * Link with liblowpengine.a. All state is in the arguments: any number of threads may call at the same time, each with buffers
- * of its own. No entry allocates, prints, keeps a pointer or fails to return.
+ * of its own. No entry allocates, prints, keeps a pointer or fails to return. 64 KiB of stack are enough for any call.
  *
  * A cabinet of width x height has n = width * height cells, numbered row by row from the top left. A board is n bytes: byte i
  * is the tray in cell i, 0 is the empty cell, and each of 0 .. n - 1 stands once. The goal is 0, 1, 2, .. n - 1. A move is one
@@ -33,10 +33,14 @@ enum {
 /* Where the empty cell goes. */
 enum lowpengine_move { LOWPENGINE_UP = 0, LOWPENGINE_LEFT = 1, LOWPENGINE_RIGHT = 2, LOWPENGINE_DOWN = 3 };
 
-/* What an answer says: 0 for a plan or a list that was played, else why it was refused. */
+/*
+ * What an answer says: 0 if it was done, else why it was refused. Each number has one name, whichever entry answers it, so that one
+ * switch can serve all entries:
+ *
+ *   planner entries answer 0 to 11; lowpengine_play answers 0, 1 to 4, 8, 13 and 14
+ */
 enum lowpengine_result {
-    LOWPENGINE_PLAN = 0,            /* a plan was found */
-    LOWPENGINE_PLAYED = 0,          /* every move was played */
+    LOWPENGINE_DONE = 0,            /* not refused: a plan was found; every move was played */
     LOWPENGINE_BAD_SHAPE = 1,       /* width or height is not 2, 3 or 4 */
     LOWPENGINE_BAD_LENGTH = 2,      /* the board has not n bytes */
     LOWPENGINE_BAD_VALUE = 3,       /* a byte of the board is n or more; the cell is the first such */
@@ -61,8 +65,9 @@ enum lowpengine_result {
  *   p, q     the weight p over q, at least 1 over 1 and p at most 64. A plan of L moves has q * L <= p * D for every list of D
  *            moves to the goal: 1 over 1 gives a shortest plan, a larger weight a longer one in fewer visits as a rule
  *   moves    receives the plan; at least `ceiling` bytes
- *   table    working room; at least 4 * (ceiling + 1) numbers of two bytes. An odd last byte is not counted and never touched.
- *            It need not be aligned
+ *   table    at least 4 * (ceiling + 1) numbers of two bytes. Its length is tested (8), and after a search its numbers are cleared;
+ *            nothing is read from it, for the search keeps its numbers on the stack. An odd last byte is not counted and never
+ *            touched. It need not be aligned
  *
  * The arguments are tested in the order of the numbers 1 to 9, and the first that applies is the answer. Then the search runs
  * and ends in a plan, in 10 or in 11. What stood in moves and table before the call never matters.
@@ -99,7 +104,7 @@ uint64_t lowpengine_plan_short(uint32_t width, uint32_t height, const uint8_t *b
 uint64_t lowpengine_play(uint32_t width, uint32_t height, const uint8_t *board, size_t board_len, const uint8_t *moves,
                          size_t moves_len, uint8_t *out, size_t out_len);
 
-/* Of any answer: LOWPENGINE_PLAN (LOWPENGINE_PLAYED) or the refusal. */
+/* Of any answer: LOWPENGINE_DONE or the refusal. */
 static inline enum lowpengine_result lowpengine_number(uint64_t answer) { return (enum lowpengine_result)(answer & 0xff); }
 
 /* Of a plan answer: the cell of 3 and 4, else 0. */

@@ -15,6 +15,8 @@ const MOST_PRINTED: usize = 5;
 #[derive(Default)]
 pub struct Tally {
     pub kinds: BTreeMap<&'static str, usize>,
+    /// Calls of the library; what else the kinds count are claims.
+    pub calls: usize,
     pub visits: u64,
     /// Calls whose budget was spent before they could tell anything to claim.
     pub unclaimed: usize,
@@ -31,6 +33,7 @@ impl Tally {
         other.kinds.into_iter().for_each(|(kind, count)| *self.kinds.entry(kind).or_default() += count);
         merge(&mut self.plans, other.plans);
         merge(&mut self.plays, other.plays);
+        self.calls += other.calls;
         self.visits += other.visits;
         self.unclaimed += other.unclaimed;
         self.differences += other.differences;
@@ -89,6 +92,7 @@ impl<'a> Checker<'a> {
 
     fn compare_one(&mut self, kind: &'static str, before: &Call, answer: u64, after: &[u8]) {
         *self.tally.kinds.entry(kind).or_default() += 1;
+        self.tally.calls += 1;
         let numbers = if before.entry == Entry::Play { &mut self.tally.plays } else { &mut self.tally.plans };
         self.tally.visits += if before.entry == Entry::Play { 0 } else { answer >> 32 };
         *numbers.entry((answer & 0xff) as u8).or_default() += 1;

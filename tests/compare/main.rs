@@ -1,10 +1,10 @@
 //! Compares the library, through its C entries, with the second version on many calls: answers and every byte of lent memory.
 //!
-//!   compare VECTORS DAMAGED                        the library linked into this program, all cases
+//!   compare VECTORS DAMAGED [SHARE]                the library linked into this program, all cases or one in SHARE
 //!   compare VECTORS DAMAGED SHARE COMMAND [ARG..]  the library behind a harness, one case in SHARE
 //!
-//! VECTORS is the folder of stored vectors, DAMAGED the file to write damaged job texts to. It prints what differs and ends with
-//! status 1, or counts by kind and ends with status 0.
+//! VECTORS is the folder of stored vectors, or - for none; DAMAGED the file to write damaged job texts to. It prints what differs
+//! and ends with status 1, or counts by kind and ends with status 0.
 
 mod boards;
 mod bound;
@@ -33,8 +33,11 @@ const PARTS: usize = 24;
 type Task = Box<dyn Fn(&mut Checker) + Sync>;
 
 /// All that is to be compared. Each task makes its own random numbers, so nothing depends on who does it and when.
-fn tasks(vectors: PathBuf, share: usize) -> Vec<Task> {
-    let mut tasks: Vec<Task> = vec![Box::new(move |checker| vectors::run(checker, &vectors))];
+fn tasks(vectors: Option<PathBuf>, share: usize) -> Vec<Task> {
+    let mut tasks: Vec<Task> = Vec::new();
+    if let Some(folder) = vectors {
+        tasks.push(Box::new(move |checker| vectors::run(checker, &folder)));
+    }
     for part in 0..PARTS {
         tasks.push(Box::new(move |checker| boards::long_searches(checker, part, 10usize.div_ceil(share))));
         tasks.push(Box::new(move |checker| small::run(checker, part, PARTS, share)));
@@ -43,7 +46,9 @@ fn tasks(vectors: PathBuf, share: usize) -> Vec<Task> {
         tasks.push(Box::new(move |checker| wild::run(checker, part, 2_500usize.div_ceil(share))));
         tasks.push(Box::new(move |checker| plays::run(checker, part, 180usize.div_ceil(share))));
     }
-    for (width, height, step) in [(2, 2, 1), (2, 3, 1), (3, 2, 1), (2, 4, 9), (4, 2, 9), (3, 3, 61)] {
+    let small = [(2, 2, 1), (2, 3, 1), (3, 2, 1), (2, 4, 9), (4, 2, 9), (3, 3, 61)];
+    let large = [(3, 4, 1), (4, 3, 1), (4, 4, 1)];
+    for (width, height, step) in small.into_iter().chain(large) {
         let distances = Arc::new(LazyLock::new(move || Distances::of(Shape { width, height })));
         for part in 0..PARTS {
             let distances = distances.clone();
@@ -95,14 +100,15 @@ fn main() {
     let (vectors, damaged, rest) = match &arguments[..] {
         [vectors, damaged, rest @ ..] if cfg!(linked) || rest.len() >= 2 => (vectors, damaged, rest),
         _ => {
-            eprintln!("usage: compare VECTORS DAMAGED [SHARE COMMAND [ARG..]]");
+            eprintln!("usage: compare VECTORS DAMAGED [SHARE [COMMAND [ARG..]]]");
             exit(2)
         }
     };
     let share = rest.first().map_or(1, |share| share.parse().expect("SHARE is a number"));
     let command = rest.get(1..).unwrap_or(&[]);
 
-    let tally = run(&tasks(PathBuf::from(vectors), share), command);
+    let vectors = (vectors != "-").then(|| PathBuf::from(vectors));
+    let tally = run(&tasks(vectors, share), command);
     for (kind, count) in &tally.kinds {
         println!("{count:>8}  {kind}");
     }
@@ -110,14 +116,15 @@ fn main() {
     println!("answers to plays: {}", listed(&tally.plays));
     println!("no claim on legal lists, the budget was spent: {}", tally.unclaimed);
     println!("damaged job texts written: {}", damage::write(damaged.as_ref()));
-    if !command.is_empty() {
-        println!("through a harness, one case in {share}");
+    if share > 1 {
+        println!("one case in {share}");
     }
     let missing = missing(&tally);
     if tally.differences == 0 && !missing.is_empty() {
         println!("never answered: {}", missing.join(", "));
     }
-    println!("{} comparisons, {} differences", tally.kinds.values().sum::<usize>(), tally.differences);
+    let claims = tally.kinds.values().sum::<usize>() - tally.calls;
+    println!("{} calls, {claims} further claims, {} differences", tally.calls, tally.differences);
     if tally.differences > 0 || !missing.is_empty() {
         exit(1);
     }

@@ -1,0 +1,88 @@
+/*
+ * Measures the stack that a call takes. A function with a large array paints the stack below this program's frame and returns; the
+ * call is made from the same place, and what is no longer paint was used. Plans run at ceiling 120 and at weights up to 64, since a
+ * large weight takes the search down to the last depth at once; plays run lists of 10 to 100,000 moves.
+ *
+ * It prints the most bytes of both, and ends with status 1 if the 64 KiB that docs/C-INTERFACE.md promises are not enough, if a play's
+ * stack grows with its list, or if what was measured is not what is meant: no plan that went 120 deep, or a list that was refused.
+ */
+#include "lowpengine.h"
+#include <stdio.h>
+
+enum { ROOM = 1 << 18, PAINT = 0xa5, LONG = 100000, ENOUGH = 1 << 16, LEAST_OF_A_DEPTH = 64 };
+
+static uint8_t list[LONG], moves[LOWPENGINE_MOVES], table[LOWPENGINE_TABLE_BYTES], out[LOWPENGINE_CELLS];
+
+struct call {
+    uint32_t width, height, p, q;
+    uint8_t board[LOWPENGINE_CELLS];
+    size_t played; /* moves of the list to play; 0 for a plan */
+};
+
+static uint64_t answered(const struct call *c) {
+    size_t n = (size_t)c->width * c->height;
+    if (c->played > 0)
+        return lowpengine_play(c->width, c->height, c->board, n, list, c->played, out, sizeof out);
+    return lowpengine_plan(c->width, c->height, c->board, n, LOWPENGINE_MOVES, 300000, c->p, c->q, moves, sizeof moves, table,
+                           sizeof table);
+}
+
+/* Gives where the paint begins, as a number: the array is gone. */
+static uint64_t painted(const struct call *c) {
+    volatile uint8_t room[ROOM];
+    for (size_t i = 0; i < ROOM; i++)
+        room[i] = PAINT;
+    return c == NULL ? 0 : (uint64_t)(size_t)&room[0];
+}
+
+/* Through pointers that the compiler can't see through, so that each call has a frame of its own. */
+static uint64_t (*volatile paint)(const struct call *) = painted;
+static uint64_t (*volatile make)(const struct call *) = answered;
+
+/* The stack that a call takes. The first, unmeasured, has the loader find what it needs. */
+static size_t used(const struct call *c) {
+    make(c);
+    const volatile uint8_t *room = (const volatile uint8_t *)(size_t)paint(c);
+    make(c);
+    size_t first = 0;
+    while (first < ROOM && room[first] == PAINT)
+        first++;
+    return ROOM - first;
+}
+
+/* The goal turned round; where that can't be brought to the goal, with two trays exchanged. */
+static struct call far_board(uint32_t width, uint32_t height, uint32_t p, uint32_t q) {
+    struct call c = {width, height, p, q, {0}, 0};
+    uint32_t n = width * height;
+    for (uint32_t i = 0; i < n; i++)
+        c.board[i] = (uint8_t)(n - 1 - i);
+    if (lowpengine_number(answered(&c)) == LOWPENGINE_UNREACHABLE) {
+        c.board[0] = (uint8_t)(n - 2);
+        c.board[1] = (uint8_t)(n - 1);
+    }
+    return c;
+}
+
+int main(void) {
+    static const uint32_t weights[][2] = {{1, 1}, {3, 2}, {2, 1}, {3, 1}, {5, 1}, {8, 1}, {16, 1}, {64, 1}};
+    size_t plan = 0, play = 0;
+    for (uint32_t width = 2; width <= 4; width++)
+        for (uint32_t height = 2; height <= 4; height++)
+            for (size_t w = 0; w < sizeof weights / sizeof weights[0]; w++) {
+                struct call c = far_board(width, height, weights[w][0], weights[w][1]);
+                size_t bytes = used(&c);
+                plan = bytes > plan ? bytes : plan;
+            }
+    for (size_t i = 0; i < LONG; i++)
+        list[i] = i % 2 == 0 ? LOWPENGINE_UP : LOWPENGINE_DOWN;
+    struct call c = far_board(4, 4, 1, 1);
+    int grows = 0, refused = 0;
+    for (c.played = 10; c.played <= LONG; c.played *= 10) {
+        size_t bytes = used(&c);
+        refused |= lowpengine_number(answered(&c)) != LOWPENGINE_DONE;
+        grows |= play > 0 && bytes != play;
+        play = bytes > play ? bytes : play;
+    }
+    printf("stack of a plan %u bytes, of a play %u bytes\n", (unsigned)plan, (unsigned)play);
+    return plan > ENOUGH || play > ENOUGH || grows || refused || plan < 120 * LEAST_OF_A_DEPTH;
+}
