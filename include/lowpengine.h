@@ -34,10 +34,8 @@ enum {
 enum lowpengine_move { LOWPENGINE_UP = 0, LOWPENGINE_LEFT = 1, LOWPENGINE_RIGHT = 2, LOWPENGINE_DOWN = 3 };
 
 /*
- * What an answer says: 0 if it was done, else why it was refused. Each number has one name, whichever entry answers it, so that one
- * switch can serve all entries:
- *
- *   planner entries answer 0 to 11; lowpengine_play answers 0, 1 to 4, 8, 13 and 14
+ * What an answer says: 0 if it was done, else why it was refused. Each number has one name, whichever entry answers it, so one
+ * switch can serve all entries. The planner entries answer 0 to 11; lowpengine_play answers 0, 1 to 4, 8, 13 and 14.
  */
 enum lowpengine_result {
     LOWPENGINE_DONE = 0,            /* not refused: a plan was found; every move was played */
@@ -65,9 +63,9 @@ enum lowpengine_result {
  *   p, q     the weight p over q, at least 1 over 1 and p at most 64. A plan of L moves has q * L <= p * D for every list of D
  *            moves to the goal: 1 over 1 gives a shortest plan, a larger weight a longer one in fewer visits as a rule
  *   moves    receives the plan; at least `ceiling` bytes
- *   table    at least 4 * (ceiling + 1) numbers of two bytes. Its length is tested (8), and after a search its numbers are cleared;
- *            nothing is read from it, for the search keeps its numbers on the stack. An odd last byte is not counted and never
- *            touched. It need not be aligned
+ *   table    at least 4 * (ceiling + 1) numbers of two bytes. Its length is tested (8), and after a search that many numbers
+ *            are cleared; nothing is read from it, for the search keeps its numbers on the stack. An odd last byte is not
+ *            counted and never touched. It need not be aligned
  *
  * The arguments are tested in the order of the numbers 1 to 9, and the first that applies is the answer. Then the search runs
  * and ends in a plan, in 10 or in 11. What stood in moves and table before the call never matters.

@@ -1,7 +1,7 @@
 /*
- * Switches over the numbers of each entry, as a caller would, and makes a call for each number. Compiled with every warning as an
- * error, in C and in C++: a number with two names, or one that the header lacks, does not compile. It ends with status 0 if each call
- * comes to its own case.
+ * Switches over the numbers of each entry, as a caller would, and makes a call for each number. Compiled with every warning as
+ * an error, in C and in C++: two cases for one number, a name that the header lacks, or a number that no case names does not
+ * compile. It ends with status 0 if each call comes to its own case.
  */
 #include "lowpengine.h"
 #include <stdio.h>

@@ -1,10 +1,11 @@
 /*
- * Measures the stack that a call takes. A function with a large array paints the stack below this program's frame and returns; the
- * call is made from the same place, and what is no longer paint was used. Plans run at ceiling 120 and at weights up to 64, since a
- * large weight takes the search down to the last depth at once; plays run lists of 10 to 100,000 moves.
+ * Measures the stack that a call takes. A function with a large array paints the stack below this program's frame and returns;
+ * the call is made from the same place, and what is no longer paint was used. Plans run at ceiling 120 and at weights up to 64,
+ * since a large weight takes the search down to the last depth at once; plays run lists of 10 to 100,000 moves.
  *
- * It prints the most bytes of both, and ends with status 1 if the 64 KiB that docs/C-INTERFACE.md promises are not enough, if a play's
- * stack grows with its list, or if what was measured is not what is meant: no plan that went 120 deep, or a list that was refused.
+ * It prints the most bytes of both, and ends with status 1 if the 64 KiB that docs/C-INTERFACE.md promises are not enough, if a
+ * play's stack grows with its list, or if what was measured is not what is meant: no plan that went deep, or a list that was
+ * refused.
  */
 #include "lowpengine.h"
 #include <stdio.h>
@@ -27,12 +28,14 @@ static uint64_t answered(const struct call *c) {
                            sizeof table);
 }
 
-/* Gives where the paint begins, as a number: the array is gone. */
+static size_t lowest; /* where the paint begins, as a number: the array is gone by then */
+
 static uint64_t painted(const struct call *c) {
     volatile uint8_t room[ROOM];
     for (size_t i = 0; i < ROOM; i++)
         room[i] = PAINT;
-    return c == NULL ? 0 : (uint64_t)(size_t)&room[0];
+    lowest = (size_t)&room[0];
+    return c->width;
 }
 
 /* Through pointers that the compiler can't see through, so that each call has a frame of its own. */
@@ -42,8 +45,9 @@ static uint64_t (*volatile make)(const struct call *) = answered;
 /* The stack that a call takes. The first, unmeasured, has the loader find what it needs. */
 static size_t used(const struct call *c) {
     make(c);
-    const volatile uint8_t *room = (const volatile uint8_t *)(size_t)paint(c);
+    paint(c);
     make(c);
+    const volatile uint8_t *room = (const volatile uint8_t *)lowest;
     size_t first = 0;
     while (first < ROOM && room[first] == PAINT)
         first++;

@@ -53,38 +53,40 @@ fn limits_of_the_numbers() {
     }
 }
 
-// Boards that tell slips apart which the rows above let pass. Beside each stands what the slip would answer.
+// Boards that tell slips apart which the rows above let pass, each with what the slip would answer.
 
+/// 15 visits.
 #[test]
 fn never_inheriting() {
-    assert_eq!(answer("3 2 3 1000 1 1 4 1 0 3 2 5"), "refused 10 0 14"); // 15
+    assert_eq!(answer("3 2 3 1000 1 1 4 1 0 3 2 5"), "refused 10 0 14");
 }
 
+/// 7 visits.
 #[test]
 fn always_inheriting() {
-    assert_eq!(answer("3 2 6 1000 2 1 3 0 1 4 5 2"), "plan 5 6 RDLLU"); // 7
+    assert_eq!(answer("3 2 6 1000 2 1 3 0 1 4 5 2"), "plan 5 6 RDLLU");
 }
 
-/// A tie goes to the successor that returned last.
+/// A tie goes to the successor that returned last: 9 visits, and in the next two 10 and 15.
 #[test]
 fn latest_return_3_by_2() {
-    assert_eq!(answer("3 2 2 1000 1 1 3 0 1 5 2 4"), "refused 10 0 10"); // 9
+    assert_eq!(answer("3 2 2 1000 1 1 3 0 1 5 2 4"), "refused 10 0 10");
 }
 
 #[test]
 fn latest_return_2_by_3() {
-    assert_eq!(answer("2 3 2 1000 1 1 1 5 0 2 3 4"), "refused 10 0 11"); // 10
+    assert_eq!(answer("2 3 2 1000 1 1 1 5 0 2 3 4"), "refused 10 0 11");
 }
 
 #[test]
 fn latest_return_3_by_3() {
-    assert_eq!(answer("3 3 8 1000 1 1 3 1 5 2 0 4 6 7 8"), "plan 8 16 LURDRULL"); // 15
+    assert_eq!(answer("3 3 8 1000 1 1 3 1 5 2 0 4 6 7 8"), "plan 8 16 LURDRULL");
 }
 
-/// Here the visits are as many, and the plan is another.
+/// Here the visits are as many, and the plan is LDRDLUURUL.
 #[test]
 fn latest_return_2_by_4() {
-    assert_eq!(answer("2 4 10 1000 1 1 1 3 2 0 4 6 7 5"), "plan 10 21 ULDDRDLUUU"); // LDRDLUURUL
+    assert_eq!(answer("2 4 10 1000 1 1 1 3 2 0 4 6 7 5"), "plan 10 21 ULDDRDLUUU");
 }
 
 #[test]

@@ -1,4 +1,4 @@
-/* The part of <stddef.h> that the harness and the example use, for a compiler that comes without headers. */
+/* The part of <stddef.h> that the C programs here use, for a compiler that comes without headers. */
 #ifndef SHIM_STDDEF_H
 #define SHIM_STDDEF_H
 

@@ -1,4 +1,4 @@
-/* The part of <stdint.h> that the harness and the example use, for a compiler that comes without headers. */
+/* The part of <stdint.h> that the C programs here use, for a compiler that comes without headers. */
 #ifndef SHIM_STDINT_H
 #define SHIM_STDINT_H
 

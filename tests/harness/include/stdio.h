@@ -1,8 +1,12 @@
-/* The part of <stdio.h> that the harness and the example use, for a compiler that comes without headers. */
+/* The part of <stdio.h> that the C programs here use, for a compiler that comes without headers. */
 #ifndef SHIM_STDIO_H
 #define SHIM_STDIO_H
 
 #include <stddef.h>
+
+#ifdef __cplusplus
+extern "C" {
+#endif
 
 typedef struct shim_file FILE;
 extern FILE *stdin, *stdout;
@@ -13,5 +17,9 @@ int puts(const char *line);
 int fflush(FILE *to);
 size_t fread(void *to, size_t size, size_t count, FILE *from);
 size_t fwrite(const void *from, size_t size, size_t count, FILE *to);
+
+#ifdef __cplusplus
+}
+#endif
 
 #endif
