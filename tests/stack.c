@@ -4,19 +4,20 @@
  * since a large weight takes the search down to the last depth at once; plays run lists of 10 to 100,000 moves.
  *
  * It prints the most bytes of both, and ends with status 1 if the 64 KiB that docs/C-INTERFACE.md promises are not enough, if a
- * play's stack grows with its list, or if what was measured is not what is meant: no plan that went deep, or a list that was
- * refused.
+ * play's stack grows with its list, or if what was measured is not what is meant: plans that take no more at ceiling 120 than at
+ * 119, so did not go down to the last depth, or a list that was refused.
  */
 #include "lowpengine.h"
 #include <stdio.h>
 
-enum { ROOM = 1 << 18, PAINT = 0xa5, LONG = 100000, ENOUGH = 1 << 16, LEAST_OF_A_DEPTH = 64 };
+enum { ROOM = 1 << 18, PAINT = 0xa5, LONG = 100000, ENOUGH = 1 << 16 };
 
 static uint8_t list[LONG], moves[LOWPENGINE_MOVES], table[LOWPENGINE_TABLE_BYTES], out[LOWPENGINE_CELLS];
 
 struct call {
     uint32_t width, height, p, q;
     uint8_t board[LOWPENGINE_CELLS];
+    int32_t ceiling;
     size_t played; /* moves of the list to play; 0 for a plan */
 };
 
@@ -24,7 +25,7 @@ static uint64_t answered(const struct call *c) {
     size_t n = (size_t)c->width * c->height;
     if (c->played > 0)
         return lowpengine_play(c->width, c->height, c->board, n, list, c->played, out, sizeof out);
-    return lowpengine_plan(c->width, c->height, c->board, n, LOWPENGINE_MOVES, 300000, c->p, c->q, moves, sizeof moves, table,
+    return lowpengine_plan(c->width, c->height, c->board, n, c->ceiling, 20000, c->p, c->q, moves, sizeof moves, table,
                            sizeof table);
 }
 
@@ -56,7 +57,7 @@ static size_t used(const struct call *c) {
 
 /* The goal turned round; where that can't be brought to the goal, with two trays exchanged. */
 static struct call far_board(uint32_t width, uint32_t height, uint32_t p, uint32_t q) {
-    struct call c = {width, height, p, q, {0}, 0};
+    struct call c = {width, height, p, q, {0}, LOWPENGINE_MOVES, 0};
     uint32_t n = width * height;
     for (uint32_t i = 0; i < n; i++)
         c.board[i] = (uint8_t)(n - 1 - i);
@@ -67,16 +68,23 @@ static struct call far_board(uint32_t width, uint32_t height, uint32_t p, uint32
     return c;
 }
 
-int main(void) {
+/* The most stack of plans of all shapes at some weights. */
+static size_t most_of_plans(int32_t ceiling) {
     static const uint32_t weights[][2] = {{1, 1}, {3, 2}, {2, 1}, {3, 1}, {5, 1}, {8, 1}, {16, 1}, {64, 1}};
-    size_t plan = 0, play = 0;
+    size_t most = 0;
     for (uint32_t width = 2; width <= 4; width++)
         for (uint32_t height = 2; height <= 4; height++)
             for (size_t w = 0; w < sizeof weights / sizeof weights[0]; w++) {
                 struct call c = far_board(width, height, weights[w][0], weights[w][1]);
+                c.ceiling = ceiling;
                 size_t bytes = used(&c);
-                plan = bytes > plan ? bytes : plan;
+                most = bytes > most ? bytes : most;
             }
+    return most;
+}
+
+int main(void) {
+    size_t plan = most_of_plans(120), less = most_of_plans(119), play = 0;
     for (size_t i = 0; i < LONG; i++)
         list[i] = i % 2 == 0 ? LOWPENGINE_UP : LOWPENGINE_DOWN;
     struct call c = far_board(4, 4, 1, 1);
@@ -87,6 +95,7 @@ int main(void) {
         grows |= play > 0 && bytes != play;
         play = bytes > play ? bytes : play;
     }
-    printf("stack of a plan %u bytes, of a play %u bytes\n", (unsigned)plan, (unsigned)play);
-    return plan > ENOUGH || play > ENOUGH || grows || refused || plan < 120 * LEAST_OF_A_DEPTH;
+    printf("stack of a plan %u bytes, %u of them for the last depth; of a play %u bytes\n", (unsigned)plan, (unsigned)(plan - less),
+           (unsigned)play);
+    return plan > ENOUGH || play > ENOUGH || grows || refused || plan <= less;
 }

@@ -67,7 +67,7 @@ fn always_inheriting() {
     assert_eq!(answer("3 2 6 1000 2 1 3 0 1 4 5 2"), "plan 5 6 RDLLU");
 }
 
-/// A tie goes to the successor that returned last: 9 visits, and in the next two 10 and 15.
+/// A tie goes to the successor that returned last: 9 visits, and in the next two 19 and 15.
 #[test]
 fn latest_return_3_by_2() {
     assert_eq!(answer("3 2 2 1000 1 1 3 0 1 5 2 4"), "refused 10 0 10");
@@ -75,7 +75,7 @@ fn latest_return_3_by_2() {
 
 #[test]
 fn latest_return_2_by_3() {
-    assert_eq!(answer("2 3 2 1000 1 1 1 5 0 2 3 4"), "refused 10 0 11");
+    assert_eq!(answer("2 3 9 1000 1 1 1 5 0 2 3 4"), "plan 9 20 RULDDRULU");
 }
 
 #[test]
