@@ -1,47 +1,48 @@
 -- The laws of the board that other parts use, by subject; each is proved in the file that its line names. Assumes nothing.
 
 -- the first number at which a test holds, and the turns of a loop that looks for it
-pub use Rattle.board.proofs.Firsts.{IsFirst, firstOf-first, firstOf-is, firstOf-low, firstOf-high, firstOf-holds}
-pub use Rattle.board.proofs.Firsts.{firstOf-fails, firstOf-found, firstOf-none, firstOf-cong}
-pub use Rattle.board.proofs.Firsts.{firstOf-here, firstOf-next, firstOf-passed, firstOf-stops, firstOf-goes-on}
-pub use Rattle.board.proofs.Firsts.{firstOf-ends}
+pub use Rattle.board.proofs.theory.Firsts.{IsFirst, firstOf-first, firstOf-is, firstOf-low, firstOf-high, firstOf-holds}
+pub use Rattle.board.proofs.theory.Firsts.{firstOf-fails, firstOf-found, firstOf-none, firstOf-cong}
+pub use Rattle.board.proofs.theory.Firsts.{firstOf-here, firstOf-next, firstOf-passed, firstOf-stops, firstOf-goes-on}
+pub use Rattle.board.proofs.theory.Firsts.{firstOf-ends}
 -- tests in a fixed order
-pub use Rattle.board.proofs.TestsInOrder.{first-means, first-given, none-means, none-given}
-pub use Rattle.board.proofs.TestsInOrder.{front-given, behind-given, none-both, Split, front, behind, first-split, none-split}
-pub use Rattle.board.proofs.TestsInOrder.{front-refusal, behind-refusal, same-behind}
+pub use Rattle.board.proofs.theory.TestsInOrder.{first-means, first-given, none-means, none-given}
+pub use Rattle.board.proofs.theory.TestsInOrder.{front-given, behind-given, none-both, Split, front, behind, first-split}
+pub use Rattle.board.proofs.theory.TestsInOrder.{none-split, front-refusal, behind-refusal, same-behind}
 -- the pigeonhole
-pub use Rattle.board.proofs.Onto.{Small, Once, Stands, onto}
+pub use Rattle.board.proofs.theory.Onto.{Small, Once, Stands, onto}
 -- shapes: sides, how many cells, rows and columns
-pub use Rattle.board.proofs.Sides.{neither, Within, side-passes, passing-side, side-within, cells-within, cell-row, cell-column}
+pub use Rattle.board.proofs.theory.Sides.{neither, Within, side-passes, passing-side, side-within, cells-within}
+pub use Rattle.board.proofs.theory.Sides.{cell-row, cell-column}
 -- the cells of a board, the empty cell, the goal
-pub use Rattle.board.proofs.Boards.{stands, same-cell}
-pub use Rattle.board.proofs.Boards.{empty-inside, empty-holds-0, only-empty}
-pub use Rattle.board.proofs.Boards.{goal-length, goal-at, goal-is, isGoal-sound, isGoal-complete, goal-is-board}
-pub use Rattle.board.proofs.Boards.{goal-empty}
+pub use Rattle.board.proofs.theory.Boards.{stands, same-cell}
+pub use Rattle.board.proofs.theory.Boards.{empty-inside, empty-holds-0, only-empty}
+pub use Rattle.board.proofs.theory.Boards.{goal-length, goal-at, goal-is, isGoal-sound, isGoal-complete, goal-is-board}
+pub use Rattle.board.proofs.theory.Boards.{goal-empty}
 -- two values exchanged
-pub use Rattle.board.proofs.Swaps.{swapped, turned, turned-first, turned-second, turned-rest, turned-twice}
-pub use Rattle.board.proofs.Swaps.{turned-inside, length-swapped, at-swapped, at-swapped-first, at-swapped-second}
-pub use Rattle.board.proofs.Swaps.{at-swapped-rest, swapped-back, swapped-board}
+pub use Rattle.board.proofs.theory.Swaps.{swapped, turned, turned-first, turned-second, turned-rest, turned-twice}
+pub use Rattle.board.proofs.theory.Swaps.{turned-inside, length-swapped, at-swapped, at-swapped-first, at-swapped-second}
+pub use Rattle.board.proofs.theory.Swaps.{at-swapped-rest, swapped-back, swapped-board}
 -- one step on the grid
-pub use Rattle.board.proofs.OneApart.{OneApart, one-apart-sym, one-apart-across, one-apart-right, one-apart-left}
-pub use Rattle.board.proofs.OneApart.{apart-step}
-pub use Rattle.board.proofs.Steps.{Step, up, left, right, down, inside-row, same-place}
-pub use Rattle.board.proofs.Steps.{leads-by-step, leads-inside, step-stays, step-leads, step-back, step-number}
-pub use Rattle.board.proofs.Steps.{step-sum, step-elsewhere}
+pub use Rattle.board.proofs.theory.OneApart.{OneApart, one-apart-sym, one-apart-across, one-apart-right, one-apart-left}
+pub use Rattle.board.proofs.theory.OneApart.{apart-step}
+pub use Rattle.board.proofs.theory.Steps.{Step, up, left, right, down, inside-row, same-place}
+pub use Rattle.board.proofs.theory.Steps.{leads-by-step, leads-inside, step-stays, step-leads, step-back, step-number}
+pub use Rattle.board.proofs.theory.Steps.{step-sum, step-elsewhere}
 -- a legal move, the board that it makes, and taking it back
-pub use Rattle.board.proofs.Moving.{target, slide-swaps, legal-step, legal-number, target-inside, target-elsewhere}
-pub use Rattle.board.proofs.Moving.{target-holds-tray, after-swaps, after-board, after-empty, back-legal, back-after}
-pub use Rattle.board.proofs.Moving.{list-board}
+pub use Rattle.board.proofs.theory.Moving.{target, slide-swaps, legal-step, legal-number, target-inside, target-elsewhere}
+pub use Rattle.board.proofs.theory.Moving.{target-holds-tray, after-swaps, after-board, after-empty, back-legal, back-after}
+pub use Rattle.board.proofs.theory.Moving.{list-board}
 -- the distance
-pub use Rattle.board.proofs.Distances.{tray-between, tray-empty, tray-at-home, step-between, row-below-4}
-pub use Rattle.board.proofs.Distances.{column-below-4, four-wide-inside, between-four, between-at-most-6}
-pub use Rattle.board.proofs.Distances.{tray-at-most-6, tray-home}
-pub use Rattle.board.proofs.Distances.{distance-from-cell, distance-from-end, goal-distance, distance-at-most-90}
-pub use Rattle.board.proofs.Distances.{distance-0-goal, distance-0-iff-goal, move-distance}
+pub use Rattle.board.proofs.theory.Distances.{tray-between, tray-empty, tray-at-home, step-between, row-below-4}
+pub use Rattle.board.proofs.theory.Distances.{column-below-4, four-wide-inside, between-four, between-at-most-6}
+pub use Rattle.board.proofs.theory.Distances.{tray-at-most-6, tray-home}
+pub use Rattle.board.proofs.theory.Distances.{distance-from-cell, distance-from-end, goal-distance, distance-at-most-90}
+pub use Rattle.board.proofs.theory.Distances.{distance-0-goal, distance-0-iff-goal, move-distance}
 -- the parity of test 9
-pub use Rattle.board.proofs.Inversions.{swap-turns-inversions}
-pub use Rattle.board.proofs.Parities.{goal-inversions, goal-not-odd, move-keeps-parity, list-keeps-parity}
-pub use Rattle.board.proofs.Parities.{odd-never-solved}
+pub use Rattle.board.proofs.theory.Inversions.{swap-turns-inversions}
+pub use Rattle.board.proofs.theory.Parities.{goal-inversions, goal-not-odd, move-keeps-parity, list-keeps-parity}
+pub use Rattle.board.proofs.theory.Parities.{odd-never-solved}
 -- tests 1 to 4
-pub use Rattle.board.proofs.Faultless.{none-too-large, too-large-within, none-repeats, repeat-within, sound-means}
-pub use Rattle.board.proofs.Faultless.{faultless-sound, fault-cell-inside, faulty-means, faulty-given, none-faulty, board-of}
+pub use Rattle.board.proofs.theory.Faultless.{none-too-large, too-large-within, none-repeats, repeat-within, sound-means}
+pub use Rattle.board.proofs.theory.Faultless.{faultless-sound, fault-cell-inside, faulty-means, faulty-given, none-faulty, board-of}

@@ -2,7 +2,7 @@
 -- Assumes nothing.
 
 -- the first bad move, and legal lists
-pub use Rattle.player.proofs.FirstBad.{end-next, first-bad-within, no-bad-move, first-bad-move}
+pub use Rattle.player.proofs.theory.FirstBad.{end-next, first-bad-within, no-bad-move, first-bad-move}
 -- when each answer is given, and what the output is afterwards
 pub use Rattle.player.proofs.Promises.{answer-case, case-answer, refusal-leaves, end-leaves}
 -- nothing is left open

@@ -24,7 +24,7 @@ use Rattle.player.specs.declared.Played.{Played}
 use Rattle.player.specs.declared.Played.the-variants.{End, Refused}
 use Rattle.player.specs.Play.{firstBad, badMove, comesTo, answerOn, answerAfter, answerFor, outAfter, PlayedAs}
 use Rattle.player.specs.Cases.{OnCabinet, FirstBadAt, CaseOf, faulty, short, noMove, offGrid, played}
-use Rattle.player.proofs.FirstBad.{first-bad-within, no-bad-move, first-bad-move}
+use Rattle.player.proofs.theory.FirstBad.{first-bad-within, no-bad-move, first-bad-move}
 
 -- two tests that say the same are equal
 same-test : (t u : Bool) → (t ≡ true → u ≡ true) → (u ≡ true → t ≡ true) → t ≡ u

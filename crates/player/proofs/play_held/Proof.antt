@@ -19,7 +19,7 @@ use Rattle.player.specs.declared.Played.{Played}
 use Rattle.player.specs.declared.Played.the-variants.{End, Refused}
 use Rattle.player.specs.Play.{badMove, comesTo, answerOn, outAfter, PlayedOn}
 use Rattle.player.specs.Run.{RanAs}
-use Rattle.player.proofs.FirstBad.{first-bad-within}
+use Rattle.player.proofs.theory.FirstBad.{first-bad-within}
 use Rattle.player.proofs.play_held.Statement.{statement}
 use Rattle.player.proofs.play_held.Tie as tie
 
@@ -78,8 +78,9 @@ same-length c = ⊎-elim (λ w. ap length (w .5) ∙ w .2 .kept .1 .1 .0) (λ w.
 
 returns : tie.Need-returns
 returns c =
-    let start = c .before .before .before .before .before .before in
-    let runs = c .before .before .before .run .ensures in
+    let ran = c .before .before .before in
+    let start = ran .before .before .before in
+    let runs = ran .run .ensures in
     ⊎-elim
     (λ w. all-good _ _ _ _ _ _ _ runs (start .pre .1) (c .come-to .ensures) (w .0 .taken) (w .5 ∙ w .2 .ensures))
     (λ w. one-bad _ _ _ _ _ _ _ runs (start .pre .1) (c .come-to .ensures) (w .0 .left) (w .1))

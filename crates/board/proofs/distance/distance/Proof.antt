@@ -1,145 +1,15 @@
--- `board::distance::distance` meets its contract: the loop sums what the shape's table gives for each of sixteen places, which for a board's
--- cell is the tray's distance and 0 past them; no sum on the way is above the board's distance, so none wraps. Assumes nothing.
-use Prim.Native.Nat.{ℕ, zero, suc, _+_, _*_, _-_, _/_, _%_, _≤_, _<_}
-use mathlib.Core.Path.{_≡_, refl, sym, ap, ap₂, _∙_}
-use mathlib.Core.Bool.{Bool, true, false}
-use mathlib.Core.List.{List, [], _∷_, _++_}
-use lib.Dec.{ltb}
-use borrow.Author.Needs.{needs}
+-- `board::distance::distance` meets its contract: the loop sums what the shape's table gives for each of sixteen places (Sums), and no
+-- sum on the way is above the board's distance, so none wraps. Assumes nothing.
+use Prim.Native.Nat.{ℕ, _-_}
+use mathlib.Core.Path.{_≡_, sym, ap, _∙_}
 use native.Mathlib.Omega.{arith}
-use native.Mathlib.Nat.{add-zero, zero-add, add-assoc}
-use native.Mathlib.Numerals.{add-one}
-use borrow.Author.Tests.{lt-ltb, le-ltb, ltb-true, ltb-false}
-use lib.ListN.{length, getD, take, drop, replicate, drop-of-length-le, take-append-drop}
-use lib.Seq.{getD-take, getD-drop, drop-cons}
+use native.Mathlib.Nat.{zero-add}
 use denote.Ref.{now}
-use Rattle.board.specs.declared.Shape.{Shape}
-use Rattle.board.specs.declared.Position.{Position}
-use Rattle.board.specs.Shape.{cells, GoodShape}
-use Rattle.board.specs.Board.{at, IsBoard}
-use Rattle.board.specs.Distance.{trayDistance, distanceFrom, distance, nearAt, NearTable}
-use Rattle.board.specs.Held.{held, Holds}
-use Rattle.board.proofs.Sides.{cells-within}
-use Rattle.board.proofs.Distances.{distance-at-most-90}
+use Rattle.board.proofs.theory.Distances.{distance-at-most-90}
+use Rattle.board.proofs.code.Holding.{sixteen}
+use Rattle.board.proofs.code.Sums.{lookedUp, Summed, one-more, part, all-summed, sum-is, small-value}
 use Rattle.board.proofs.distance.distance.Statement.{statement}
 use Rattle.board.proofs.distance.distance.Tie as tie
-
--- what f gives for the cells i, i + 1, .., summed
-sumFrom : (ℕ → ℕ → ℕ) → ℕ → List ℕ → ℕ
-sumFrom f i [] = 0
-sumFrom f i (v ∷ vs) = f i v + sumFrom f (suc i) vs
-
--- f and the trays' distance agree at each cell: so do the sums
-as-distance : (s : Shape) (f : ℕ → ℕ → ℕ) (i : ℕ) (xs : List ℕ) → ((k : ℕ) → k < length xs → f (i + k) (at xs k) ≡ trayDistance s (i + k) (at xs k)) → sumFrom f i xs ≡ distanceFrom s i xs
-unfolding sumFrom distanceFrom
-as-distance s f i [] same = refl
-as-distance s f i (x ∷ xs) same =
-    ap₂ _+_
-    (ap (λ (j : ℕ). f j x) (sym (add-zero i)) ∙ same 0 (omega arith) ∙ ap (λ (j : ℕ). trayDistance s j x) (add-zero i))
-    (as-distance s f (suc i) xs
-    (λ k below.
-    let up : suc i + k ≡ i + suc k = omega arith in
-    ap (λ (j : ℕ). f j (at xs k)) up ∙ same (suc k) (omega arith) ∙ ap (λ (j : ℕ). trayDistance s j (at xs k)) (sym up)))
-
--- what the shape's table gives for a tray is its distance
-looked-up : (s : Shape) (near : List ℕ) (i v : ℕ) → GoodShape s → NearTable s near → i < cells s → v < cells s → getD near (16 * i + v) 0 ≡ trayDistance s i v
-unfolding nearAt
-looked-up s near i v good table below-i below-v =
-    let few = cells-within good in
-    let cell : (16 * i + v) / 16 ≡ i = omega arith in
-    let value : (16 * i + v) % 16 ≡ v = omega arith in
-    table .entry (16 * i + v) (omega arith)
-    ∙ simp (cell, value, lt-ltb i (cells s) below-i, lt-ltb v (cells s) below-v)
-
-abbrev lookedUp : List ℕ → ℕ → ℕ → ℕ
-lookedUp near i v = getD near (16 * i + v) 0
-
-total : (s : Shape) (b near : List ℕ) → GoodShape s → IsBoard s b → NearTable s near → sumFrom (lookedUp near) 0 b ≡ distance s b
-unfolding distance
-total s b near good board table =
-    as-distance s (lookedUp near) 0 b
-    (λ k below.
-    let inside : 0 + k < cells s = omega (arith, board .long) in
-    looked-up s near (0 + k) (at b k) good table inside (board .small k (omega (arith, board .long))))
-
--- the cells below i have been summed
-record Summed (f : ℕ → ℕ → ℕ) (b : List ℕ) (n sum i : ℕ) : Type 0 where
-  within : i ≤ n
-  whole : sum + sumFrom f i (drop i b) ≡ sumFrom f 0 b
-
-one-more : (f : ℕ → ℕ → ℕ) (b : List ℕ) (n sum i k : ℕ) → Summed f b n sum i → i < n → n ≡ length b → k ≡ f i (at b i) → Summed f b n (sum + k) (i + 1)
-unfolding sumFrom
-one-more f b n sum i k done below long is =
-    record {
-      within = omega arith;
-      whole = rw add-one (omega (arith, done .whole, ap (sumFrom f i) (drop-cons b i 0 (omega arith))));
-    }
-
--- with the next cell's part the sum is still at most the whole
-part : (f : ℕ → ℕ → ℕ) (b : List ℕ) (n sum i k : ℕ) → Summed f b n sum i → i < n → n ≡ length b → k ≡ f i (at b i) → sum + k ≤ sumFrom f 0 b
-part f b n sum i k done below long is = omega (arith, one-more f b n sum i k done below long is .whole)
-
-all-summed : (f : ℕ → ℕ → ℕ) (b : List ℕ) (n sum i : ℕ) → Summed f b n sum i → n ≤ i → n ≡ length b → sum ≡ sumFrom f 0 b
-unfolding sumFrom
-all-summed f b n sum i done past long =
-    sym (add-zero sum) ∙ ap (λ (l : List ℕ). sum + sumFrom f i l) (sym (drop-of-length-le b {i = i} (omega arith))) ∙ done .whole
-
--- zeros, at any place
-zeros-are-0 : (n i : ℕ) → _≡_ {A = ℕ} (getD (replicate n 0) i 0) 0
-zeros-are-0 zero i = refl
-zeros-are-0 (suc n) zero = refl
-zeros-are-0 (suc n) (suc i) = zeros-are-0 n i
-
--- ---- the places past the board's cells add nothing
-
-sum-append : (f : ℕ → ℕ → ℕ) (i : ℕ) (xs ys : List ℕ) → sumFrom f i (xs ++ ys) ≡ sumFrom f i xs + sumFrom f (i + length xs) ys
-unfolding sumFrom
-sum-append f i [] ys = sym (zero-add (sumFrom f (i + 0) ys) ∙ ap (λ (k : ℕ). sumFrom f k ys) (add-zero i))
-sum-append f i (x ∷ xs) ys =
-    let up : suc i + length xs ≡ i + suc (length xs) = omega arith in
-    ap (λ (k : ℕ). f i x + k) (sum-append f (suc i) xs ys ∙ ap (λ (k : ℕ). sumFrom f (suc i) xs + sumFrom f k ys) up)
-    ∙ sym (add-assoc (f i x) (sumFrom f (suc i) xs) (sumFrom f (i + suc (length xs)) ys))
-
-sum-zeros : (f : ℕ → ℕ → ℕ) (k i : ℕ) → ((j : ℕ) → i ≤ j → j < i + k → f j 0 ≡ 0) → sumFrom f i (replicate k 0) ≡ 0
-unfolding sumFrom
-sum-zeros f zero i none = refl
-sum-zeros f (suc k) i none =
-    omega (arith, none i (omega arith) (omega arith), sum-zeros f k (suc i) (λ j low high. none j (omega arith) (omega arith)))
-
-past-cells : (s : Shape) (near : List ℕ) (i : ℕ) → NearTable s near → cells s ≤ i → i < 16 → lookedUp near i 0 ≡ 0
-unfolding nearAt
-past-cells s near i table past few =
-    let cell : (16 * i + 0) / 16 ≡ i = omega arith in
-    table .entry (16 * i + 0) (omega arith) ∙ simp (cell, le-ltb i (cells s) past)
-
--- the sum over all sixteen places is the board's distance
-sum-is : (s : Shape) (p : Position) (near : List ℕ) → Holds s p → NearTable s near → sumFrom (lookedUp near) 0 (p .cells) ≡ distance s (held s p)
-sum-is s p near holds table =
-    ap (sumFrom (lookedUp near) 0) (sym (take-append-drop (cells s) (p .cells)) ∙ ap (λ (l : List ℕ). held s p ++ l) (holds .rest))
-    ∙ sum-append (lookedUp near) 0 (held s p) (replicate (16 - cells s) 0)
-    ∙ ap₂ _+_ (total s (held s p) near (holds .shape) (holds .board) table) zeros
-    ∙ add-zero (distance s (held s p))
-  where
-    zeros : sumFrom (lookedUp near) (0 + length (held s p)) (replicate (16 - cells s) 0) ≡ 0
-    zeros =
-        sum-zeros (lookedUp near) (16 - cells s) (0 + length (held s p))
-        (λ j low high. past-cells s near j table (omega (arith, holds .board .long)) (omega (arith, holds .board .long, cells-within (holds .shape))))
-
--- what stands in any of the sixteen places is below 16
-small-value : (s : Shape) (p : Position) (i v : ℕ) → Holds s p → v ≡ at (p .cells) i → v < 16
-small-value s p i v holds is = go (ltb i (cells s)) refl
-  where
-    go : (t : Bool) → ltb i (cells s) ≡ t → v < 16
-    go true e =
-        let below = ltb-true i (cells s) e in
-        omega (arith, cells-within (holds .shape), holds .board .small i below, getD-take (cells s) (p .cells) i 0 below)
-    go false e =
-        let past = ltb-false i (cells s) e in
-        let place : cells s + (i - cells s) ≡ i = omega arith in
-        let zero-there : at (p .cells) i ≡ 0 =
-        ap (at (p .cells)) (sym place) ∙ sym (getD-drop (cells s) (p .cells) (i - cells s) 0)
-        ∙ ap (λ (l : List ℕ). getD l (i - cells s) 0) (holds .rest) ∙ zeros-are-0 (16 - cells s) (i - cells s) in
-        omega arith
 
 abbrev Inv-loop : tie.InvT-loop
 Inv-loop p near sum₀ i₀ sum i = Summed (lookedUp near) (p .cells) 16 sum i
@@ -167,15 +37,16 @@ number-of-requires c κs = tt
 
 add-sum : tie.Need-add-sum Inv-loop μ-loop
 add-sum c =
-    let start = c .before .before .before .before .before in
+    let value = c .before .before in
+    let at-loop = value .before .before in
+    let start = at-loop .before in
     let h = start .pre .0 in
-    let sixteen : length (start .args .p .cells) ≡ 16 = search needs in
+    let table = lookedUp (now (start .args .near)) in
+    let looked = c .number-of .ensures ∙ ap (table (at-loop .loop .i)) (value .number-at .ensures) in
     omega (
       arith,
       sum-is _ _ _ h (start .pre .1),
-      part (lookedUp (now (start .args .near))) (start .args .p .cells) 16 _ _ _ (c .before .before .before .before .loop .inv)
-          (c .before .before .before .loop-test .taken) (sym sixteen)
-          (c .number-of .ensures ∙ ap (lookedUp (now (start .args .near)) (c .before .before .before .before .loop .i)) (c .before .before .number-at .ensures)),
+      part table _ 16 _ _ _ (at-loop .loop .inv) (value .before .loop-test .taken) (sym (sixteen _ _ h)) looked,
       distance-at-most-90 _ _ (h .shape) (h .board),
     )
 
@@ -187,17 +58,17 @@ loop-less c = omega arith
 
 loop-again : tie.Need-loop-again Inv-loop μ-loop
 loop-again c =
-    let start = c .before .before .before .before .before in
-    let sixteen : length (start .args .p .cells) ≡ 16 = search needs in
-    one-more (lookedUp (now (start .args .near))) (start .args .p .cells) 16 _ _ _ (c .before .before .before .before .loop .inv)
-    (c .before .before .before .loop-test .taken) (sym sixteen)
-    (c .number-of .ensures ∙ ap (lookedUp (now (start .args .near)) (c .before .before .before .before .loop .i)) (c .before .before .number-at .ensures))
+    let value = c .before .before in
+    let at-loop = value .before .before in
+    let start = at-loop .before in
+    let table = lookedUp (now (start .args .near)) in
+    let looked = c .number-of .ensures ∙ ap (table (at-loop .loop .i)) (value .number-at .ensures) in
+    one-more table _ 16 _ _ _ (at-loop .loop .inv) (value .before .loop-test .taken) (sym (sixteen _ _ (start .pre .0))) looked
 
 returns : tie.Need-returns Inv-loop μ-loop
 returns c =
-    let start = c .before .before in
-    let sixteen : length (start .args .p .cells) ≡ 16 = search needs in
-    all-summed _ _ _ _ _ (c .before .loop .inv) (c .loop-test .left) (sym sixteen) ∙ sum-is _ _ _ (start .pre .0) (start .pre .1)
+    let pre = c .before .before .pre in
+    all-summed _ _ _ _ _ (c .before .loop .inv) (c .loop-test .left) (sym (sixteen _ _ (pre .0))) ∙ sum-is _ _ _ (pre .0) (pre .1)
 
 pub distance-spec : {M : Type 1} → statement M
 distance-spec =

@@ -9,7 +9,7 @@ use lib.Dec.{eqb}
 use lib.ListN.{length, getD}
 use borrow.Author.Tests.{eqb-true}
 use Rattle.board.specs.Distance.{DistanceTable, betweenFour}
-use Rattle.board.proofs.Entries.{everywhere, at-entry}
+use Rattle.board.proofs.code.Entries.{everywhere, at-entry}
 use Rattle.board.proofs.distance.distances.Statement.{statement}
 use Rattle.board.proofs.distance.distances.Tie as tie
 

@@ -1,8 +1,8 @@
 -- `board::distance::four_wide` meets its contract: the cell is one of sixteen. Assumes nothing.
 use native.Mathlib.Omega.{arith}
 use borrow.Author.Needs.{needs}
-use Rattle.board.proofs.Sides.{side-within}
-use Rattle.board.proofs.Distances.{four-wide-inside}
+use Rattle.board.proofs.theory.Sides.{side-within}
+use Rattle.board.proofs.theory.Distances.{four-wide-inside}
 use Rattle.board.proofs.distance.four_wide.Statement.{statement}
 use Rattle.board.proofs.distance.four_wide.Tie as tie
 

@@ -13,7 +13,7 @@ use denote.Ref.{now}
 use Rattle.board.specs.declared.Shape.{Shape}
 use Rattle.board.specs.Shape.{cells, GoodShape}
 use Rattle.board.specs.Distance.{trayDistance, fourWide, DistanceTable, nearAt}
-use Rattle.board.proofs.Distances.{four-wide-inside, between-four, tray-between}
+use Rattle.board.proofs.theory.Distances.{four-wide-inside, between-four, tray-between}
 use Rattle.board.proofs.distance.near_entry.Statement.{statement}
 use Rattle.board.proofs.distance.near_entry.Tie as tie
 
@@ -40,8 +40,16 @@ no-value : (s : Shape) (k : ℕ) → cells s ≤ k % 16 → 0 ≡ nearAt s k
 unfolding nearAt
 no-value s k past = simp (le-ltb (k % 16) (cells s) past, and-false)
 
-entry-is : (s : Shape) (table : List ℕ) (k a c : ℕ) → GoodShape s → DistanceTable table → (k % 16 ≡ 0 → ⊥) → k / 16 < cells s → k % 16 < cells s
-    → a ≡ fourWide s (k / 16) → c ≡ fourWide s (k % 16) → getD table (16 * a + c) 0 ≡ nearAt s k
+entry-is :
+    (s : Shape) (table : List ℕ) (k a c : ℕ)
+    → GoodShape s
+    → DistanceTable table
+    → (k % 16 ≡ 0 → ⊥)
+    → k / 16 < cells s
+    → k % 16 < cells s
+    → a ≡ fourWide s (k / 16)
+    → c ≡ fourWide s (k % 16)
+    → getD table (16 * a + c) 0 ≡ nearAt s k
 unfolding nearAt
 entry-is s table k a c good t tray cell value at-cell at-value =
     ap (λ (x : ℕ). getD table (16 * x + c) 0) at-cell
@@ -68,7 +76,8 @@ four-wide-requires c κs = search needs
 
 mul-result : tie.Need-mul-result
 mul-result c =
-    let start = c .before .before .before .before .before in
+    let first-test = c .before .before .before in
+    let start = first-test .before .before in
     omega (arith, four-wide-inside _ (start .pre .0) (start .args .k / 16) (omega arith))
 
 four-wide-requires-2 : tie.Need-four-wide-requires-2
@@ -76,7 +85,9 @@ four-wide-requires-2 c κs = search needs
 
 add-result : tie.Need-add-result
 add-result c =
-    let start = c .before .before .before .before .before .before in
+    let last-test = c .before .before in
+    let first-test = last-test .before .before in
+    let start = first-test .before .before in
     omega (
       arith,
       four-wide-inside _ (start .pre .0) (start .args .k / 16) (omega arith),
@@ -85,7 +96,9 @@ add-result c =
 
 element-copy-out-result : tie.Need-element-copy-out-result
 element-copy-out-result c =
-    let start = c .before .before .before .before .before .before in
+    let last-test = c .before .before in
+    let first-test = last-test .before .before in
+    let start = first-test .before .before in
     omega (
       arith,
       four-wide-inside _ (start .pre .0) (start .args .k / 16) (omega arith),
@@ -94,8 +107,10 @@ element-copy-out-result c =
 
 returns-4 : tie.Need-returns-4
 returns-4 c =
-    let start = c .before .before .before .before .before .before .before in
-    entry-is _ _ _ _ _ (start .pre .0) (start .pre .1 .1) (c .before .before .before .before .before .if1 .left)
+    let last-test = c .before .before .before in
+    let first-test = last-test .before .before in
+    let start = first-test .before .before in
+    entry-is _ _ _ _ _ (start .pre .0) (start .pre .1 .1) (first-test .if1 .left)
     (omega arith) (omega arith) (c .before .before .four-wide .ensures) (c .before .four-wide2 .ensures)
 
 pub near-entry-spec : {M : Type 1} → statement M

@@ -42,7 +42,8 @@ loop-holds c = record { within = omega arith; long = refl; passed = λ j l. absu
 
 near-entry-requires : tie.Need-near-entry-requires Inv-loop μ-loop
 near-entry-requires c κs =
-    (c .before .before .before .before .pre, (c .before .loop-test .taken, c .before .before .before .distances .ensures))
+    let table-made = c .before .before .before in
+    (table-made .before .pre, (c .before .loop-test .taken, table-made .distances .ensures))
 
 array-write-near : tie.Need-array-write-near Inv-loop μ-loop
 array-write-near c = omega arith

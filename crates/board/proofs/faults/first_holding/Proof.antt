@@ -7,7 +7,7 @@ use lib.Dec.{eqb}
 use borrow.Author.Tests.{eq-eqb, ne-eqb}
 use Rattle.board.specs.Board.{at}
 use Rattle.board.specs.Faults.{firstHolding}
-use Rattle.board.proofs.FirstLoop.{Looking, begin, further, here, nowhere}
+use Rattle.board.proofs.code.FirstLoop.{Looking, begin, further, here, nowhere}
 use Rattle.board.proofs.faults.first_holding.Statement.{statement}
 use Rattle.board.proofs.faults.first_holding.Tie as tie
 

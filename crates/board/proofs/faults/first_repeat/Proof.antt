@@ -3,7 +3,7 @@ use Prim.Native.Nat.{ℕ, _-_}
 use native.Mathlib.Omega.{arith}
 use borrow.Author.Tests.{lt-ltb, le-ltb}
 use Rattle.board.specs.Faults.{repeats, firstRepeat}
-use Rattle.board.proofs.FirstLoop.{Looking, begin, further, here, nowhere}
+use Rattle.board.proofs.code.FirstLoop.{Looking, begin, further, here, nowhere}
 use Rattle.board.proofs.faults.first_repeat.Statement.{statement}
 use Rattle.board.proofs.faults.first_repeat.Tie as tie
 
@@ -25,7 +25,8 @@ first-holding-requires c κs = omega arith
 returns : tie.Need-returns Inv-loop μ-loop
 unfolding firstRepeat repeats
 returns c =
-    here _ _ _ (c .before .before .before .before .loop .inv) (c .before .before .before .loop-test .taken)
+    let tested = c .before .before .before in
+    here _ _ _ (tested .before .loop .inv) (tested .loop-test .taken)
     (rw (← (c .before .first-holding .ensures)) (lt-ltb _ _ (c .if1 .taken)))
 
 add-cell : tie.Need-add-cell Inv-loop μ-loop
@@ -37,7 +38,8 @@ loop-less c = omega arith
 loop-again : tie.Need-loop-again Inv-loop μ-loop
 unfolding repeats
 loop-again c =
-    further _ _ _ (c .before .before .before .before .loop .inv) (c .before .before .before .loop-test .taken)
+    let tested = c .before .before .before in
+    further _ _ _ (tested .before .loop .inv) (tested .loop-test .taken)
     (rw (← (c .before .first-holding .ensures)) (le-ltb _ _ (c .if1 .left)))
 
 returns-2 : tie.Need-returns-2 Inv-loop μ-loop

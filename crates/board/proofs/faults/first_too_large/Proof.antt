@@ -8,7 +8,7 @@ use borrow.Author.Needs.{needs}
 use borrow.Author.Tests.{le-leb, lt-leb}
 use Rattle.board.specs.Board.{at}
 use Rattle.board.specs.Faults.{firstTooLarge}
-use Rattle.board.proofs.FirstLoop.{Looking, begin, further, here, nowhere}
+use Rattle.board.proofs.code.FirstLoop.{Looking, begin, further, here, nowhere}
 use Rattle.board.proofs.faults.first_too_large.Statement.{statement}
 use Rattle.board.proofs.faults.first_too_large.Tie as tie
 
@@ -33,7 +33,9 @@ number-of-requires c κs = search needs
 returns : tie.Need-returns Inv-loop μ-loop
 unfolding firstTooLarge
 returns c =
-    here _ _ _ (c .before .before .before .before .loop .inv) (c .before .before .before .loop-test .taken) (rw (← (c .before .number-of .ensures)) (le-leb _ _ (c .if1 .taken)))
+    let tested = c .before .before .before in
+    here _ _ _ (tested .before .loop .inv) (tested .loop-test .taken)
+    (rw (← (c .before .number-of .ensures)) (le-leb _ _ (c .if1 .taken)))
 
 add-i : tie.Need-add-i Inv-loop μ-loop
 add-i c = omega arith
@@ -43,7 +45,9 @@ loop-less c = omega arith
 
 loop-again : tie.Need-loop-again Inv-loop μ-loop
 loop-again c =
-    further _ _ _ (c .before .before .before .before .loop .inv) (c .before .before .before .loop-test .taken) (rw (← (c .before .number-of .ensures)) (lt-leb _ _ (c .if1 .left)))
+    let tested = c .before .before .before in
+    further _ _ _ (tested .before .loop .inv) (tested .loop-test .taken)
+    (rw (← (c .before .number-of .ensures)) (lt-leb _ _ (c .if1 .left)))
 
 returns-2 : tie.Need-returns-2 Inv-loop μ-loop
 unfolding firstTooLarge

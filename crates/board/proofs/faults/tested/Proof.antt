@@ -3,7 +3,7 @@ use mathlib.Core.Path.{_∙_, sym}
 use borrow.Author.Needs.{needs}
 use Rattle.board.specs.Tests.{firstRefusal}
 use Rattle.board.specs.Faults.{faultTests, saidOf, tested}
-use Rattle.board.proofs.Sides.{passing-side}
+use Rattle.board.proofs.theory.Sides.{passing-side}
 use Rattle.board.proofs.faults.tested.Statement.{statement}
 use Rattle.board.proofs.faults.tested.Tie as tie
 

@@ -4,7 +4,7 @@ use borrow.Author.Needs.{needs}
 use borrow.Author.Tests.{eq-eqb, ne-eqb, lt-ltb, le-ltb}
 use Rattle.board.specs.Tests.{firstRefusal}
 use Rattle.board.specs.Faults.{faultTests, saidOf, tested}
-use Rattle.board.proofs.Sides.{side-passes, cells-within}
+use Rattle.board.proofs.theory.Sides.{side-passes, cells-within}
 use Rattle.board.proofs.faults.tested_cells.Statement.{statement}
 use Rattle.board.proofs.faults.tested_cells.Tie as tie
 
@@ -23,11 +23,12 @@ first-too-large-requires c κs = search needs
 returns-2 : tie.Need-returns-2
 unfolding tested faultTests saidOf firstRefusal
 returns-2 c =
-    let good = c .before .before .before .before .pre in
+    let length-test = c .before .before in
+    let good = length-test .before .before .pre in
     simp (
       side-passes (good .wide),
       side-passes (good .high),
-      eq-eqb _ _ (c .before .before .if1 .left),
+      eq-eqb _ _ (length-test .if1 .left),
       ← (c .before .first-too-large .ensures),
       lt-ltb _ _ (c .if2 .taken),
     )
@@ -38,13 +39,15 @@ first-repeat-requires c κs = search needs
 returns-3 : tie.Need-returns-3
 unfolding tested faultTests saidOf firstRefusal
 returns-3 c =
-    let good = c .before .before .before .before .before .before .pre in
+    let large-test = c .before .before in
+    let length-test = large-test .before .before in
+    let good = length-test .before .before .pre in
     simp (
       side-passes (good .wide),
       side-passes (good .high),
-      eq-eqb _ _ (c .before .before .before .before .if1 .left),
-      ← (c .before .before .before .first-too-large .ensures),
-      le-ltb _ _ (c .before .before .if2 .left),
+      eq-eqb _ _ (length-test .if1 .left),
+      ← (large-test .before .first-too-large .ensures),
+      le-ltb _ _ (large-test .if2 .left),
       ← (c .before .first-repeat .ensures),
       lt-ltb _ _ (c .if3 .taken),
     )
@@ -52,13 +55,15 @@ returns-3 c =
 returns-4 : tie.Need-returns-4
 unfolding tested faultTests saidOf firstRefusal
 returns-4 c =
-    let good = c .before .before .before .before .before .before .pre in
+    let large-test = c .before .before in
+    let length-test = large-test .before .before in
+    let good = length-test .before .before .pre in
     simp (
       side-passes (good .wide),
       side-passes (good .high),
-      eq-eqb _ _ (c .before .before .before .before .if1 .left),
-      ← (c .before .before .before .first-too-large .ensures),
-      le-ltb _ _ (c .before .before .if2 .left),
+      eq-eqb _ _ (length-test .if1 .left),
+      ← (large-test .before .first-too-large .ensures),
+      le-ltb _ _ (large-test .if2 .left),
       ← (c .before .first-repeat .ensures),
       le-ltb _ _ (c .if3 .left),
     )

@@ -1,7 +1,7 @@
 -- `board::held::cell_count` meets its contract: a good shape has at most 16 cells. Assumes nothing.
 use native.Mathlib.Omega.{arith}
 use borrow.Author.Needs.{needs}
-use Rattle.board.proofs.Sides.{cells-within}
+use Rattle.board.proofs.theory.Sides.{cells-within}
 use Rattle.board.proofs.held.cell_count.Statement.{statement}
 use Rattle.board.proofs.held.cell_count.Tie as tie
 

@@ -14,7 +14,7 @@ use Rattle.board.specs.Shape.{cells, GoodShape}
 use Rattle.board.specs.Board.{IsBoard, emptyCell}
 use Rattle.board.specs.Faults.{firstHolding}
 use Rattle.board.specs.Held.{held, Holds, Taken}
-use Rattle.board.proofs.Sides.{cells-within}
+use Rattle.board.proofs.theory.Sides.{cells-within}
 use Rattle.board.proofs.held.hold.Statement.{statement}
 use Rattle.board.proofs.held.hold.Tie as tie
 
@@ -25,7 +25,12 @@ record Put (board put : List ℕ) (i : ℕ) : Type 0 where
   same : take i put ≡ take i board
   rest : drop i put ≡ replicate (16 - i) 0
 
-one-more : (board put : List ℕ) (i : ℕ) → Put board put i → i < length board → length board ≤ 16 → Put board (set put i (getD board i 0)) (i + 1)
+one-more :
+    (board put : List ℕ) (i : ℕ)
+    → Put board put i
+    → i < length board
+    → length board ≤ 16
+    → Put board (set put i (getD board i 0)) (i + 1)
 one-more board put i p below short =
     record {
       within = omega arith;
@@ -49,9 +54,25 @@ one-more board put i p below short =
     less : 15 - i ≡ 16 - suc i
     less = omega arith
 
-taken : (s : Shape) (b l : List ℕ) (e i : ℕ) → GoodShape s → IsBoard s b → Put b l i → length b ≤ i → e ≡ emptyCell b → Taken s b (record { cells = l; empty = e })
+taken :
+    (s : Shape) (b l : List ℕ) (e i : ℕ)
+    → GoodShape s
+    → IsBoard s b
+    → Put b l i
+    → length b ≤ i
+    → e ≡ emptyCell b
+    → Taken s b (record { cells = l; empty = e })
 taken s b l e i good board p done is =
-    record { same = whole; holds = record { shape = good; board = subst (IsBoard s) (sym whole) board; empty = is ∙ ap emptyCell (sym whole); rest = past } }
+    record {
+      same = whole;
+      holds =
+          record {
+            shape = good;
+            board = subst (IsBoard s) (sym whole) board;
+            empty = is ∙ ap emptyCell (sym whole);
+            rest = past;
+          };
+    }
   where
     count : cells s ≡ i
     count = omega (arith, board .long, p .within)
@@ -76,7 +97,8 @@ shared-slice-read-cells c = omega arith
 
 array-write-cells : tie.Need-array-write-cells Inv-loop μ-loop
 array-write-cells c =
-    let start = c .before .before .before .before in
+    let at-loop = c .before .before in
+    let start = at-loop .before .before in
     omega (arith, cells-within (start .pre .0), start .pre .1 .long)
 
 add-i : tie.Need-add-i Inv-loop μ-loop
@@ -87,8 +109,9 @@ loop-less c = omega arith
 
 loop-again : tie.Need-loop-again Inv-loop μ-loop
 loop-again c =
-    let start = c .before .before .before .before in
-    one-more _ _ _ (c .before .before .loop .inv) (c .before .loop-test .taken)
+    let at-loop = c .before .before in
+    let start = at-loop .before .before in
+    one-more _ _ _ (at-loop .loop .inv) (c .before .loop-test .taken)
     (omega (arith, cells-within (start .pre .0), start .pre .1 .long))
 
 first-holding-requires : tie.Need-first-holding-requires Inv-loop μ-loop
@@ -97,8 +120,9 @@ first-holding-requires c κs = omega arith
 returns : tie.Need-returns Inv-loop μ-loop
 unfolding firstHolding emptyCell
 returns c =
-    let start = c .before .before .before .before in
-    taken _ _ _ _ _ (start .pre .0) (start .pre .1) (c .before .before .loop .inv) (c .before .loop-test .left) (c .first-holding .ensures)
+    let at-loop = c .before .before in
+    let start = at-loop .before .before in
+    taken _ _ _ _ _ (start .pre .0) (start .pre .1) (at-loop .loop .inv) (c .before .loop-test .left) (c .first-holding .ensures)
 
 pub hold-spec : {M : Type 1} → statement M
 hold-spec =

@@ -9,8 +9,8 @@ use lib.ListN.{take, getD}
 use lib.Seq.{getD-take}
 use borrow.Author.Tests.{eq-eqb, ne-eqb}
 use Rattle.board.specs.Board.{at, isGoal}
-use Rattle.board.proofs.Sides.{cells-within}
-use Rattle.board.proofs.FirstLoop.{Looking, begin, further, here, nowhere}
+use Rattle.board.proofs.theory.Sides.{cells-within}
+use Rattle.board.proofs.code.FirstLoop.{Looking, begin, further, here, nowhere}
 use Rattle.board.proofs.held.is_goal.Statement.{statement}
 use Rattle.board.proofs.held.is_goal.Tie as tie
 
@@ -41,12 +41,16 @@ returns : tie.Need-returns Inv-loop μ-loop
 unfolding isGoal
 returns c =
     let at-loop = c .before .before .before in
+    let counted = at-loop .before .cell-count in
     let below = c .before .before .loop-test .taken in
-    let first = here _ _ _ (at-loop .loop .inv) below (tells _ _ _ _ false below (c .before .number-at .ensures) (ne-eqb _ _ (c .if1 .taken))) in
-    rw (← (at-loop .before .cell-count .ensures), ← first) (sym (ne-eqb (at-loop .loop .i) (at-loop .before .cell-count .result) (omega arith)))
+    let not-own = tells _ _ _ _ false below (c .before .number-at .ensures) (ne-eqb _ _ (c .if1 .taken)) in
+    rw (← (counted .ensures), ← (here _ _ _ (at-loop .loop .inv) below not-own))
+    (sym (ne-eqb (at-loop .loop .i) (counted .result) (omega arith)))
 
 add-i : tie.Need-add-i Inv-loop μ-loop
-add-i c = omega (arith, cells-within (c .before .before .before .before .before .pre))
+add-i c =
+    let at-loop = c .before .before .before in
+    omega (arith, cells-within (at-loop .before .before .pre))
 
 loop-less : tie.Need-loop-less Inv-loop μ-loop
 loop-less c = omega arith
@@ -60,8 +64,10 @@ loop-again c =
 returns-2 : tie.Need-returns-2 Inv-loop μ-loop
 unfolding isGoal
 returns-2 c =
-    let first = nowhere _ _ _ (c .before .loop .inv) (c .loop-test .left) in
-    rw (← (c .before .before .cell-count .ensures), ← first) (sym (eq-eqb (c .before .loop .i) (c .before .before .cell-count .result) (omega arith)))
+    let at-loop = c .before in
+    let counted = at-loop .before .cell-count in
+    rw (← (counted .ensures), ← (nowhere _ _ _ (at-loop .loop .inv) (c .loop-test .left)))
+    (sym (eq-eqb (at-loop .loop .i) (counted .result) (omega arith)))
 
 pub is-goal-spec : {M : Type 1} → statement M
 is-goal-spec =

@@ -14,9 +14,9 @@ use Rattle.board.specs.Shape.{cells, GoodShape}
 use Rattle.board.specs.Board.{IsBoard, emptyCell}
 use Rattle.board.specs.Moves.{staysOn, leadsTo, legal, slide, after}
 use Rattle.board.specs.Held.{held, Holds, Taken}
-use Rattle.board.proofs.Sides.{cells-within}
-use Rattle.board.proofs.Boards.{empty-inside}
-use Rattle.board.proofs.Moving.{target, target-inside, after-board, after-empty}
+use Rattle.board.proofs.theory.Sides.{cells-within}
+use Rattle.board.proofs.theory.Moving.{target, target-inside, after-board, after-empty}
+use Rattle.board.proofs.code.Holding.{empty-below}
 use Rattle.board.proofs.moves.after.Statement.{statement}
 use Rattle.board.proofs.moves.after.Tie as tie
 
@@ -32,9 +32,6 @@ slides n l e t below-e below-t =
     (take-set-lt n l e (getD l t 0) below-e ∙ ap (λ (v : ℕ). set (take n l) e v) (sym (getD-take n l t 0 below-t)))
 
 module _ (s : Shape) (p : Position) (m : ℕ) (holds : Holds s p) (allowed : legal s (held s p) m ≡ true) where
-  empty-below : p .empty < cells s
-  empty-below = subst (λ (e : ℕ). e < cells s) (sym (holds .empty)) (empty-inside s (held s p) (holds .shape) (holds .board))
-
   stays : staysOn s (p .empty) m ≡ true
   unfolding legal
   stays = ap (λ (e : ℕ). staysOn s e m) (holds .empty) ∙ allowed
@@ -46,7 +43,11 @@ module _ (s : Shape) (p : Position) (m : ℕ) (holds : Holds s p) (allowed : leg
   target-below t is =
       subst (λ (k : ℕ). k < cells s) (sym (target-is t is)) (target-inside s (held s p) m (holds .shape) (holds .board) (passes allowed))
 
-  made : (t : ℕ) → t ≡ leadsTo s (p .empty) m → Taken s (after s (held s p) m) (record { cells = set (set (p .cells) (p .empty) (getD (p .cells) t 0)) t 0; empty = t })
+  -- the sixteen cells after the two stores
+  abbrev stored : ℕ → List ℕ
+  stored t = set (set (p .cells) (p .empty) (getD (p .cells) t 0)) t 0
+
+  made : (t : ℕ) → t ≡ leadsTo s (p .empty) m → Taken s (after s (held s p) m) (record { cells = stored t; empty = t })
   unfolding after
   made t is =
       record {
@@ -55,24 +56,27 @@ module _ (s : Shape) (p : Position) (m : ℕ) (holds : Holds s p) (allowed : leg
             record {
               shape = holds .shape;
               board = subst (IsBoard s) (sym same) (after-board s (held s p) m (holds .shape) (holds .board) (passes allowed));
-              empty = target-is t is ∙ sym (after-empty s (held s p) m (holds .shape) (holds .board) (passes allowed)) ∙ ap emptyCell (sym same);
+              empty =
+                  target-is t is
+                  ∙ sym (after-empty s (held s p) m (holds .shape) (holds .board) (passes allowed))
+                  ∙ ap emptyCell (sym same);
               rest =
                   drop-set-lt (cells s) (set (p .cells) (p .empty) (getD (p .cells) t 0)) t 0 (target-below t is)
-                  ∙ drop-set-lt (cells s) (p .cells) (p .empty) (getD (p .cells) t 0) empty-below
+                  ∙ drop-set-lt (cells s) (p .cells) (p .empty) (getD (p .cells) t 0) (empty-below s p holds)
                   ∙ holds .rest;
             };
       }
     where
-      same : take (cells s) (set (set (p .cells) (p .empty) (getD (p .cells) t 0)) t 0) ≡ after s (held s p) m
+      same : take (cells s) (stored t) ≡ after s (held s p) m
       same =
-          slides (cells s) (p .cells) (p .empty) t empty-below (target-below t is)
+          slides (cells s) (p .cells) (p .empty) t (empty-below s p holds) (target-below t is)
           ∙ ap (λ (e : ℕ). slide (held s p) e t) (holds .empty)
           ∙ ap (λ (k : ℕ). slide (held s p) (emptyCell (held s p)) k) (target-is t is)
 
 leads-to-requires : tie.Need-leads-to-requires
 leads-to-requires c κs =
     let held-by = c .pre .0 in
-    (held-by .shape, (empty-below _ _ _ held-by (c .pre .1), stays _ _ _ held-by (c .pre .1)))
+    (held-by .shape, (empty-below _ _ held-by, stays _ _ _ held-by (c .pre .1)))
 
 array-read-cells : tie.Need-array-read-cells
 array-read-cells c =
@@ -82,7 +86,7 @@ array-read-cells c =
 array-write-cells : tie.Need-array-write-cells
 array-write-cells c =
     let start = c .before .before in
-    omega (arith, cells-within (start .pre .0 .shape), empty-below _ _ _ (start .pre .0) (start .pre .1))
+    omega (arith, cells-within (start .pre .0 .shape), empty-below _ _ (start .pre .0))
 
 array-write-cells-2 : tie.Need-array-write-cells-2
 array-write-cells-2 c =

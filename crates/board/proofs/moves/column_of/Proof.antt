@@ -4,7 +4,7 @@ use mathlib.Core.Path.{_≡_}
 use native.Mathlib.Omega.{arith}
 use borrow.Author.Needs.{needs}
 use Rattle.board.specs.Shape.{Side, two, three, four}
-use Rattle.board.proofs.Sides.{side-within}
+use Rattle.board.proofs.theory.Sides.{side-within}
 use Rattle.board.proofs.moves.column_of.Statement.{statement}
 use Rattle.board.proofs.moves.column_of.Tie as tie
 

@@ -8,7 +8,7 @@ use borrow.Author.Tests.{ltb-true}
 use Rattle.board.specs.declared.Shape.{Shape}
 use Rattle.board.specs.Shape.{Side, two, three, four, cells}
 use Rattle.board.specs.Moves.{staysOn, leadsTo}
-use Rattle.board.proofs.Sides.{side-within, cells-within}
+use Rattle.board.proofs.theory.Sides.{side-within, cells-within}
 use Rattle.board.proofs.moves.leads_to.Statement.{statement}
 use Rattle.board.proofs.moves.leads_to.Tie as tie
 
@@ -65,7 +65,8 @@ returns-3 c = rw (c .if3 .taken)
 
 add-result-2 : tie.Need-add-result-2
 add-result-2 c =
-    let good = c .before .before .before .before .pre .0 in
+    let second-test = c .before .before in
+    let good = second-test .before .before .pre .0 in
     omega (arith, cells-within good, side-within (good .wide))
 
 returns-4 : tie.Need-returns-4

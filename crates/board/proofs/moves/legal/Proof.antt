@@ -1,17 +1,13 @@
 -- `board::moves::legal` meets its contract: the empty cell that the position holds is the board's. Assumes nothing.
-use mathlib.Core.Path.{_∙_, ap, sym}
-use Prim.Native.Nat.{ℕ, _<_}
-use mathlib.Core.Path.{subst}
-use Rattle.board.specs.Shape.{cells}
+use Prim.Native.Nat.{ℕ}
+use mathlib.Core.Path.{_∙_, ap}
 use Rattle.board.specs.Moves.{staysOn, legal}
-use Rattle.board.proofs.Boards.{empty-inside}
+use Rattle.board.proofs.code.Holding.{empty-below}
 use Rattle.board.proofs.moves.legal.Statement.{statement}
 use Rattle.board.proofs.moves.legal.Tie as tie
 
 stays-on-requires : tie.Need-stays-on-requires
-stays-on-requires c κs =
-    let h = c .pre in
-    (h .shape, subst (λ (e : ℕ). e < cells (c .args .shape)) (sym (h .empty)) (empty-inside _ _ (h .shape) (h .board)))
+stays-on-requires c κs = (c .pre .shape, empty-below _ _ (c .pre))
 
 returns : tie.Need-returns
 unfolding legal

@@ -10,7 +10,7 @@ use borrow.Author.Tests.{lt-ltb, le-ltb, leb-true, leb-false, ltb-true, ltb-fals
 use Rattle.board.specs.declared.Shape.{Shape}
 use Rattle.board.specs.Shape.{cells, Side, two, three, four, GoodShape}
 use Rattle.board.specs.Moves.{staysOn}
-use Rattle.board.proofs.Sides.{side-within, cells-within, cell-column}
+use Rattle.board.proofs.theory.Sides.{side-within, cells-within, cell-column}
 use Rattle.board.proofs.moves.stays_on.Statement.{statement}
 use Rattle.board.proofs.moves.stays_on.Tie as tie
 
@@ -69,7 +69,10 @@ column-of-requires-2 c κs =
     (start .pre .0 .wide, few-widths (start .pre .0) (start .args .e) (start .pre .1))
 
 add-result : tie.Need-add-result
-add-result c = omega (arith, cell-column (c .before .before .before .before .pre .0) (c .before .before .before .before .args .e))
+add-result c =
+    let third-test = c .before in
+    let start = third-test .before .before .before in
+    omega (arith, cell-column (start .pre .0) (start .args .e))
 
 returns-3 : tie.Need-returns-3
 unfolding staysOn
@@ -77,16 +80,20 @@ returns-3 c = rw (c .before .if3 .taken, ← (c .column-of2 .ensures))
 
 add-result-2 : tie.Need-add-result-2
 add-result-2 c =
-    let start = c .before .before .before .before in
+    let third-test = c .before in
+    let start = third-test .before .before .before in
     omega (arith, cells-within (start .pre .0), side-within (start .pre .0 .wide), start .pre .1)
 
 mul-result : tie.Need-mul-result
-mul-result c = omega (arith, cells-within (c .before .before .before .before .before .pre .0))
+mul-result c =
+    let third-test = c .before .before in
+    omega (arith, cells-within (third-test .before .before .before .pre .0))
 
 returns-4 : tie.Need-returns-4
 unfolding staysOn
 returns-4 c =
-    let start = c .before .before .before .before .before in
+    let third-test = c .before .before in
+    let start = third-test .before .before .before in
     rw (c .before .if4 .taken) (below (start .pre .0 .wide) (start .args .e) (start .args .shape .height))
 
 returns-5 : tie.Need-returns-5

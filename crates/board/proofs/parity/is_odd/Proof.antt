@@ -16,8 +16,8 @@ use Rattle.board.specs.Shape.{cells}
 use Rattle.board.specs.Board.{emptyCell}
 use Rattle.board.specs.Parity.{lower, inversions, paritySum, isOdd, LowerAfter}
 use Rattle.board.specs.Held.{held, Holds}
-use Rattle.board.proofs.Sides.{side-within, cells-within, cell-row, cell-column}
-use Rattle.board.proofs.Boards.{empty-inside}
+use Rattle.board.proofs.theory.Sides.{side-within, cells-within, cell-row, cell-column}
+use Rattle.board.proofs.theory.Boards.{empty-inside}
 use Rattle.board.proofs.parity.is_odd.Statement.{statement}
 use Rattle.board.proofs.parity.is_odd.Tie as tie
 

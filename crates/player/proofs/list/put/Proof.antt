@@ -70,8 +70,8 @@ loop-holds c =
 
 element-copy-out-out : tie.Need-element-copy-out-out Inv-loop μ-loop
 element-copy-out-out c =
-    let start = c .before .before .before .before in
-    omega (arith, cells-within (start .pre .0 .shape))
+    let at-loop = c .before in
+    omega (arith, cells-within (at-loop .before .before .before .pre .0 .shape))
 
 slice-write-out : tie.Need-slice-write-out Inv-loop μ-loop
 slice-write-out c = omega (arith, keeps-length _ _ _ _ _ (c .before .before .loop .inv))

@@ -17,7 +17,7 @@ use Rattle.board.specs.Held.{held, Taken}
 use Rattle.board.proofs.Laws.{firstOf-found, firstOf-none}
 use Rattle.player.specs.Play.{badAt, firstBad}
 use Rattle.player.specs.Run.{RanAs}
-use Rattle.player.proofs.FirstBad.{end-next}
+use Rattle.player.proofs.theory.FirstBad.{end-next}
 use Rattle.player.proofs.list.run.Statement.{statement}
 use Rattle.player.proofs.list.run.Tie as tie
 
@@ -91,12 +91,16 @@ legal-requires : tie.Need-legal-requires Inv-loop μ-loop
 legal-requires c κs = c .before .before .before .loop .inv .at .holds
 
 after-requires : tie.Need-after-requires Inv-loop μ-loop
-after-requires c κs = (c .before .before .before .before .before .loop .inv .at .holds, sym (c .before .legal .ensures) ∙ c .if1 .taken)
+after-requires c κs =
+    let at-move = c .before .before in
+    let at-loop = at-move .before .before .before in
+    (at-loop .loop .inv .at .holds, sym (c .before .legal .ensures) ∙ c .if1 .taken)
 
 returns : tie.Need-returns Inv-loop μ-loop
 returns c =
-    let at-loop = c .before .before .before .before .before in
-    stops _ _ _ _ _ _ (at-loop .loop .inv) (c .before .before .number-of .ensures) (c .before .before .before .before .loop-test .taken)
+    let at-move = c .before .before in
+    let in-loop = at-move .before .before in
+    stops _ _ _ _ _ _ (in-loop .before .loop .inv) (at-move .number-of .ensures) (in-loop .loop-test .taken)
     (sym (c .before .legal .ensures) ∙ c .if1 .left)
 
 loop-less : tie.Need-loop-less Inv-loop μ-loop

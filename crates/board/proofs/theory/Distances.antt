@@ -15,12 +15,12 @@ use Rattle.board.specs.Shape.{cells, row, column, GoodShape}
 use Rattle.board.specs.Board.{at, IsBoard, emptyCell, inOrder, goal}
 use Rattle.board.specs.Moves.{legal, after}
 use Rattle.board.specs.Distance.{apart, between, trayDistance, distanceFrom, distance, fourWide, betweenFour}
-use Rattle.board.proofs.OneApart.{OneApart, one-apart-across, one-apart-right, one-apart-left, one-apart-sym, apart-step}
-use Rattle.board.proofs.Boards.{empty-inside, empty-holds-0, same-cell, goal-is}
-use Rattle.board.proofs.Swaps.{swapped}
-use Rattle.board.proofs.Steps.{Step, up, left, right, down, same-place}
-use Rattle.board.proofs.Sides.{side-within, cells-within, cell-row, cell-column}
-use Rattle.board.proofs.Moving.{target, legal-step, target-inside, target-elsewhere, target-holds-tray, after-swaps}
+use Rattle.board.proofs.theory.OneApart.{OneApart, one-apart-across, one-apart-right, one-apart-left, one-apart-sym, apart-step}
+use Rattle.board.proofs.theory.Boards.{empty-inside, empty-holds-0, same-cell, goal-is}
+use Rattle.board.proofs.theory.Swaps.{swapped}
+use Rattle.board.proofs.theory.Steps.{Step, up, left, right, down, same-place}
+use Rattle.board.proofs.theory.Sides.{side-within, cells-within, cell-row, cell-column}
+use Rattle.board.proofs.theory.Moving.{target, legal-step, target-inside, target-elsewhere, target-holds-tray, after-swaps}
 
 -- ---- one tray
 

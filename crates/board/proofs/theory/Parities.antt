@@ -16,11 +16,11 @@ use Rattle.board.specs.Board.{IsBoard, emptyCell, inOrder, goal}
 use Rattle.board.specs.Moves.{legal, after}
 use Rattle.board.specs.Lists.{LegalList, endBoard, Solves}
 use Rattle.board.specs.Parity.{lower, inversions, paritySum, isOdd}
-use Rattle.board.proofs.OneApart.{OneApart}
-use Rattle.board.proofs.Boards.{empty-inside, goal-empty}
-use Rattle.board.proofs.Steps.{step-sum}
-use Rattle.board.proofs.Moving.{target, legal-step, target-inside, target-elsewhere, after-swaps, after-empty, after-board}
-use Rattle.board.proofs.Inversions.{swap-turns-inversions}
+use Rattle.board.proofs.theory.OneApart.{OneApart}
+use Rattle.board.proofs.theory.Boards.{empty-inside, goal-empty}
+use Rattle.board.proofs.theory.Steps.{step-sum}
+use Rattle.board.proofs.theory.Moving.{target, legal-step, target-inside, target-elsewhere, after-swaps, after-empty, after-board}
+use Rattle.board.proofs.theory.Inversions.{swap-turns-inversions}
 
 -- ---- the goal is even
 

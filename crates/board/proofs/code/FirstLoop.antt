@@ -10,7 +10,7 @@ use mathlib.Core.Bool.{Bool, true, false}
 use native.Mathlib.Numerals.{add-one}
 use native.Mathlib.Omega.{arith}
 use Rattle.board.specs.First.{firstOf}
-use Rattle.board.proofs.Firsts.{firstOf-goes-on, firstOf-stops, firstOf-ends}
+use Rattle.board.proofs.theory.Firsts.{firstOf-goes-on, firstOf-stops, firstOf-ends}
 
 -- no number below i is the first: what is looked for is looked for from i on
 pub record Looking (f : ℕ → Bool) (n i : ℕ) : Type 0 where

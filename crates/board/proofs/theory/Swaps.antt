@@ -14,7 +14,7 @@ use borrow.Author.Tests.{eq-eqb, ne-eqb}
 use Rattle.board.specs.declared.Shape.{Shape}
 use Rattle.board.specs.Shape.{cells}
 use Rattle.board.specs.Board.{at, IsBoard}
-use Rattle.board.proofs.Boards.{same-cell}
+use Rattle.board.proofs.theory.Boards.{same-cell}
 
 -- the list with the values of cells i and j exchanged
 abbrev pub swapped : List ℕ → ℕ → ℕ → List ℕ

@@ -14,9 +14,9 @@ use Rattle.board.specs.declared.Shape.{Shape}
 use Rattle.board.specs.First.{firstOf}
 use Rattle.board.specs.Shape.{cells, GoodShape}
 use Rattle.board.specs.Board.{at, IsBoard, emptyCell, inOrder, goal, isGoal}
-use Rattle.board.proofs.Sides.{cells-within}
-use Rattle.board.proofs.Firsts.{firstOf-holds, firstOf-fails, firstOf-none}
-use Rattle.board.proofs.Onto.{Stands, onto}
+use Rattle.board.proofs.theory.Sides.{cells-within}
+use Rattle.board.proofs.theory.Firsts.{firstOf-holds, firstOf-fails, firstOf-none}
+use Rattle.board.proofs.theory.Onto.{Stands, onto}
 
 -- ---- every number stands in a cell, and in one only
 

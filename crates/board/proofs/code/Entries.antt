@@ -22,7 +22,12 @@ rest-of : (a b : Bool) → a && b ≡ true → b ≡ true
 rest-of true b e = e
 rest-of false b e = absurd (false≢true e)
 
-from : (rule : ℕ → ℕ → Bool) (xs : List ℕ) (i : ℕ) → everywhere rule i xs ≡ true → (k : ℕ) → k < length xs → rule (i + k) (getD xs k 0) ≡ true
+from :
+    (rule : ℕ → ℕ → Bool) (xs : List ℕ) (i : ℕ)
+    → everywhere rule i xs ≡ true
+    → (k : ℕ)
+    → k < length xs
+    → rule (i + k) (getD xs k 0) ≡ true
 from rule [] i test k below = absurd (omega arith)
 from rule (x ∷ xs) i test zero below = rw add-zero (first-of (rule i x) (everywhere rule (suc i) xs) test)
 from rule (x ∷ xs) i test (suc k) below =

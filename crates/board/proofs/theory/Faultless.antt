@@ -20,10 +20,10 @@ use Rattle.board.specs.Shape.{cells, GoodShape, badSide}
 use Rattle.board.specs.Board.{at, IsBoard}
 use Rattle.board.specs.Tests.{firstRefusal, FirstToHold, here, later, NoneHolds, end, past}
 use Rattle.board.specs.Faults.{firstTooLarge, firstHolding, repeats, firstRepeat, faultTests, saidOf, tested, faultCell}
-use Rattle.board.proofs.TestsInOrder.{first-means, first-given, none-means}
-use Rattle.board.proofs.Firsts.{firstOf-high, firstOf-fails, firstOf-none}
-use Rattle.board.proofs.Onto.{Small, Once}
-use Rattle.board.proofs.Sides.{neither, side-passes, passing-side, cells-within}
+use Rattle.board.proofs.theory.TestsInOrder.{first-means, first-given, none-means}
+use Rattle.board.proofs.theory.Firsts.{firstOf-high, firstOf-fails, firstOf-none}
+use Rattle.board.proofs.theory.Onto.{Small, Once}
+use Rattle.board.proofs.theory.Sides.{neither, side-passes, passing-side, cells-within}
 
 -- ---- test 3
 

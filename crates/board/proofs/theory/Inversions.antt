@@ -14,8 +14,8 @@ use lib.Seq.{set-comm, getD-set-other, lt-length-set, length-take-le, getD-take}
 use borrow.Author.Tests.{lt-ltb, le-ltb}
 use Rattle.board.specs.Board.{at}
 use Rattle.board.specs.Parity.{lower, inversions}
-use Rattle.board.proofs.Onto.{Once}
-use Rattle.board.proofs.Swaps.{swapped}
+use Rattle.board.proofs.theory.Onto.{Once}
+use Rattle.board.proofs.theory.Swaps.{swapped}
 
 -- 1 where y is below x, else 0: what y adds to `lower x`
 abbrev less : ℕ → ℕ → ℕ

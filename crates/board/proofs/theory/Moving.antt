@@ -11,10 +11,10 @@ use Rattle.board.specs.Shape.{cells, GoodShape}
 use Rattle.board.specs.Board.{at, IsBoard, emptyCell}
 use Rattle.board.specs.Moves.{leadsTo, legal, slide, after}
 use Rattle.board.specs.Lists.{LegalList, endBoard}
-use Rattle.board.proofs.Boards.{empty-inside, empty-holds-0, only-empty}
-use Rattle.board.proofs.Swaps.{swapped, swapped-board, swapped-back, at-swapped-second}
-use Rattle.board.proofs.Steps.{Step, leads-by-step, leads-inside, step-stays, step-leads}
-use Rattle.board.proofs.Steps.{step-back, step-number, step-elsewhere}
+use Rattle.board.proofs.theory.Boards.{empty-inside, empty-holds-0, only-empty}
+use Rattle.board.proofs.theory.Swaps.{swapped, swapped-board, swapped-back, at-swapped-second}
+use Rattle.board.proofs.theory.Steps.{Step, leads-by-step, leads-inside, step-stays, step-leads}
+use Rattle.board.proofs.theory.Steps.{step-back, step-number, step-elsewhere}
 
 -- the cell that a move leads the empty cell to
 abbrev pub target : Shape → List ℕ → ℕ → ℕ

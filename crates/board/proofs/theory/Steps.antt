@@ -10,8 +10,8 @@ use lib.Dec.{T, ltb→lt, lt→ltb}
 use Rattle.board.specs.declared.Shape.{Shape}
 use Rattle.board.specs.Shape.{cells, row, column, Side, two, three, four, GoodShape}
 use Rattle.board.specs.Moves.{staysOn, leadsTo}
-use Rattle.board.proofs.Sides.{side-within, cell-row, cell-column}
-use Rattle.board.proofs.OneApart.{OneApart}
+use Rattle.board.proofs.theory.Sides.{side-within, cell-row, cell-column}
+use Rattle.board.proofs.theory.OneApart.{OneApart}
 
 -- move m leads from cell e to cell t
 pub data Step (s : Shape) (e t : ℕ) : ℕ → Type 0 where
