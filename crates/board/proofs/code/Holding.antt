@@ -1,9 +1,9 @@
 -- What is true of a position that holds a board: it has sixteen cells, and its empty cell is one of the board's.
 -- Assumes nothing.
-use Prim.Native.Nat.{ℕ, _+_, _-_, _<_}
+use Prim.Native.Nat.{ℕ, _-_, _<_}
 use mathlib.Core.Path.{_≡_, sym, ap, subst, _∙_}
 use native.Mathlib.Omega.{arith}
-use lib.ListN.{length, take, drop, replicate, length-take, length-drop, length-replicate}
+use lib.ListN.{length, length-take, length-drop, length-replicate}
 use Rattle.board.specs.declared.Shape.{Shape}
 use Rattle.board.specs.declared.Position.{Position}
 use Rattle.board.specs.Shape.{cells}

@@ -9,7 +9,7 @@ use native.Mathlib.Omega.{arith}
 use native.Mathlib.Nat.{add-zero, zero-add, add-assoc}
 use native.Mathlib.Numerals.{add-one}
 use lib.Dec.{ltb}
-use lib.ListN.{length, getD, take, drop, replicate, drop-of-length-le, take-append-drop}
+use lib.ListN.{length, getD, drop, replicate, drop-of-length-le, take-append-drop}
 use lib.Seq.{getD-take, getD-drop, drop-cons}
 use borrow.Author.Tests.{lt-ltb, le-ltb, ltb-true, ltb-false}
 use Rattle.board.specs.declared.Shape.{Shape}

@@ -1,6 +1,6 @@
 -- Tests 1 to 4 mean what they say. Each test by itself: no cell is too large, no cell repeats another. Then the whole: `tested`
 -- answers Sound exactly for a good shape and a board of it, and gives that shape; a fault's cell is one of sixteen. Assumes nothing.
-use Prim.Native.Nat.{ℕ, zero, suc, _*_, _≤_, _<_}
+use Prim.Native.Nat.{ℕ, _*_, _≤_, _<_}
 use mathlib.Core.Path.{_≡_, refl, subst, _∙_}
 use mathlib.Core.Logic.{_↔_}
 use mathlib.Core.Bool.{Bool, true, false, not, _||_}

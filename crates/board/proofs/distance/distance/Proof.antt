@@ -1,7 +1,7 @@
 -- `board::distance::distance` meets its contract: the loop sums what the shape's table gives for each of sixteen places (Sums), and no
 -- sum on the way is above the board's distance, so none wraps. Assumes nothing.
-use Prim.Native.Nat.{ℕ, _-_}
-use mathlib.Core.Path.{_≡_, sym, ap, _∙_}
+use Prim.Native.Nat.{_-_}
+use mathlib.Core.Path.{sym, ap, _∙_}
 use native.Mathlib.Omega.{arith}
 use native.Mathlib.Nat.{zero-add}
 use denote.Ref.{now}

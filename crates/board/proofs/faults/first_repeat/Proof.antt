@@ -1,5 +1,5 @@
 -- `board::faults::first_repeat` meets its contract: the loop looks for the first cell that repeats an earlier one. Assumes nothing.
-use Prim.Native.Nat.{ℕ, _-_}
+use Prim.Native.Nat.{_-_}
 use native.Mathlib.Omega.{arith}
 use borrow.Author.Tests.{lt-ltb, le-ltb}
 use Rattle.board.specs.Faults.{repeats, firstRepeat}

@@ -7,13 +7,11 @@ use native.Mathlib.Omega.{arith}
 use native.Mathlib.Numerals.{add-one}
 use lib.ListN.{length, take, drop, set, getD, replicate, length-set}
 use lib.Seq.{take-suc, take-suc-set, take-all, drop-set-lt, drop-drop}
-use denote.Ref.{now}
 use Rattle.board.specs.declared.Shape.{Shape}
-use Rattle.board.specs.declared.Position.{Position}
 use Rattle.board.specs.Shape.{cells, GoodShape}
 use Rattle.board.specs.Board.{IsBoard, emptyCell}
 use Rattle.board.specs.Faults.{firstHolding}
-use Rattle.board.specs.Held.{held, Holds, Taken}
+use Rattle.board.specs.Held.{Taken}
 use Rattle.board.proofs.theory.Sides.{cells-within}
 use Rattle.board.proofs.held.hold.Statement.{statement}
 use Rattle.board.proofs.held.hold.Tie as tie

@@ -10,7 +10,7 @@ use lib.ListN.{take, set, getD}
 use lib.Seq.{take-set-lt, drop-set-lt, getD-take}
 use Rattle.board.specs.declared.Shape.{Shape}
 use Rattle.board.specs.declared.Position.{Position}
-use Rattle.board.specs.Shape.{cells, GoodShape}
+use Rattle.board.specs.Shape.{cells}
 use Rattle.board.specs.Board.{IsBoard, emptyCell}
 use Rattle.board.specs.Moves.{staysOn, leadsTo, legal, slide, after}
 use Rattle.board.specs.Held.{held, Holds, Taken}

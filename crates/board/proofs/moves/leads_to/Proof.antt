@@ -2,11 +2,10 @@
 -- Assumes nothing.
 use Prim.Native.Nat.{ℕ, zero, suc, _<_, _≤_, _+_, _/_, _%_}
 use mathlib.Core.Path.{_≡_, refl, ap, sym, _∙_}
-use mathlib.Core.Bool.{Bool, true}
 use native.Mathlib.Omega.{arith}
 use borrow.Author.Tests.{ltb-true}
 use Rattle.board.specs.declared.Shape.{Shape}
-use Rattle.board.specs.Shape.{Side, two, three, four, cells}
+use Rattle.board.specs.Shape.{Side, two, three, four}
 use Rattle.board.specs.Moves.{staysOn, leadsTo}
 use Rattle.board.proofs.theory.Sides.{side-within, cells-within}
 use Rattle.board.proofs.moves.leads_to.Statement.{statement}

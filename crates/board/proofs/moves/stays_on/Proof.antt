@@ -1,6 +1,6 @@
 -- `board::moves::stays_on` meets its contract: each way out is the definition's clause for the move that was tested; a cell has a row above
 -- it exactly if it is at least a width, and one below exactly if a width more is still a cell. Assumes nothing.
-use Prim.Native.Nat.{ℕ, zero, suc, _≤_, _<_, _+_, _*_, _/_, _%_}
+use Prim.Native.Nat.{ℕ, zero, suc, _≤_, _<_, _+_, _*_, _/_}
 use mathlib.Core.Path.{_≡_, refl, sym, _∙_}
 use mathlib.Core.Bool.{Bool, true, false}
 use native.Mathlib.Nat.{mul-le-mul-left}
