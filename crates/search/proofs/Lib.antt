@@ -1,3 +1,4 @@
--- What the search rests on: the theory of the definitions alone, and what the proofs of the functions cite.
+-- What the search rests on: the theory of the definitions alone, what the proofs of the functions cite, and searches worked out.
 pub mod theory
 pub mod code
+pub mod Worked
