@@ -24,7 +24,8 @@ use Rattle.planner.specs.Limits.{ceilingOf}
 use Rattle.planner.specs.Answer.{Call, shapeOf, tests, answered, refusalNumber, refusalCell, number, cell, planLength, visits, searchRan}
 use Rattle.planner.proofs.Promises as plan
 use Rattle.planner.proofs.theory.Kept.{Returned, OutOf}
-use Rattle.planner.proofs.theory.Numbers.{IsPlan, plan-by-number, IsNoPlan, no-plan-by-number, IsSpent, spent-by-number, odd-by-number, by-test, by-search}
+use Rattle.planner.proofs.theory.Numbers.{IsPlan, plan-by-number, IsNoPlan, no-plan-by-number, IsSpent, spent-by-number}
+use Rattle.planner.proofs.theory.Numbers.{odd-by-number, by-test, by-search}
 use Rattle.planner.proofs.theory.Ways.{Way, refused, ran, way}
 use Rattle.planner.proofs.theory.Lending.{lending, by-length, same-moves}
 use Rattle.player.specs.declared.PlayRefusal.{PlayRefusal}
@@ -91,13 +92,14 @@ pub buffers-never-matter : (c : Call) (moves table : List ℕ) (r s : ℕ) (move
     → PlanGiven c r moves′ table′ → PlanGiven (lending c moves table) s moves″ table″ → (r ≡ s) × SameMoves r moves′ moves moves″
 buffers-never-matter c moves table r s moves′ table′ moves″ table″ short long one other =
     let same = by-length (inNumbers c) moves (numbers table) short (omega (arith, count (c .table), count table)) in
+    let long-is = planLength (answered (inNumbers c) .answer) in
     let length-is = ap (λ x. x / 65536 % 65536) (one .answer) ∙ answer-reads (inNumbers c) .length-read in (
       one .answer ∙ sym (other .answer ∙ ap packedPlan (same .answer)),
       record {
         told =
             other .moves
             ∙ same .moves-are
-            ∙ ap (λ l. take (planLength (answered (inNumbers c) .answer)) l ++ drop (planLength (answered (inNumbers c) .answer)) moves) (sym (one .moves))
+            ∙ ap (λ l. take long-is l ++ drop long-is moves) (sym (one .moves))
             ∙ ap (λ k. take k moves′ ++ drop k moves) (sym length-is);
       },
     )
@@ -122,7 +124,9 @@ module _ (c : Call) (bytes : AllBytes (c .table)) (r : ℕ) (moves′ table′ :
 
   fields : Reads r (number answer) (cell answer) (planLength answer) (visits answer)
   unfolding answer
-  fields = subst (λ x. Reads x (number answer) (cell answer) (planLength answer) (visits answer)) (sym (given .answer)) (answer-reads (inNumbers c))
+  fields =
+      subst (λ x. Reads x (number answer) (cell answer) (planLength answer) (visits answer)) (sym (given .answer))
+      (answer-reads (inNumbers c))
 
   -- ---- A
 
@@ -148,7 +152,9 @@ module _ (c : Call) (bytes : AllBytes (c .table)) (r : ℕ) (moves′ table′ :
             cell-is = sym (ap cell is) ∙ sym (fields .cell-read);
           }
       go (ran passed o run w) e =
-          absurd (⊎-elim (λ (z : number answer ≡ 0). omega arith) (λ (z : 10 ≤ number answer). omega arith) (plan.else-a-search (inNumbers c) passed))
+          absurd
+          (⊎-elim (λ (z : number answer ≡ 0). omega arith) (λ (z : 10 ≤ number answer). omega arith)
+          (plan.else-a-search (inNumbers c) passed))
 
       gives : RefusedBy (inNumbers c) k (r / 256 % 256) → r % 256 ≡ k
       gives it =

@@ -26,7 +26,8 @@ use Rattle.planner.specs.declared.Refusal.the-variants.{NoPlan, OutOfVis
 use Rattle.planner.specs.declared.Answer.{Answer}
 use Rattle.planner.specs.declared.Answer.the-variants.{Planned, Refused}
 use Rattle.planner.specs.Limits.{ceilingOf}
-use Rattle.planner.specs.Answer.{Call, Left, Settles, shapeOf, weightOf, tests, cleared, answered, number, refusalNumber, planLength, visits}
+use Rattle.planner.specs.Answer.{Call, Left, Settles, shapeOf, weightOf, tests, cleared, answered}
+use Rattle.planner.specs.Answer.{number, refusalNumber, visits}
 use Rattle.planner.proofs.theory.Ways.{clear}
 use Rattle.planner.proofs.theory.Kept.{ceiling-below-zero, given-exactly, else-searched, untouched-is, late-is, PlanMade, plan-made}
 use Rattle.planner.proofs.theory.Kept.{visits-counted, Returned, no-plan-is, no-plan-means, OutOf, out-of-visits-is, budgeted}
@@ -146,8 +147,9 @@ module _ (c : Call) where
         → visit (boards (shapeOf c)) (static (boards (shapeOf c)) (weightOf c)) deeper g b last stored bound left ≡ value v left′
         → (v ≤ 13440) ⊎ (v ≡ infinity)
     values-small deeper g last stored bound left v left′ depth small run =
-        value-within (boards (shapeOf c)) (IsBoard (shapeOf c)) (board-laws (shapeOf c) (clear c passed .shape)) (ceilingOf (c .ceiling)) 13440
-        (static (boards (shapeOf c)) (weightOf c)) (capped c (clear c passed)) g last b board stored (inl small) deeper bound left depth run
+        let clean = clear c passed in
+        value-within (boards (shapeOf c)) (IsBoard (shapeOf c)) (board-laws (shapeOf c) (clean .shape)) (ceilingOf (c .ceiling)) 13440
+        (static (boards (shapeOf c)) (weightOf c)) (capped c clean) g last b board stored (inl small) deeper bound left depth run
 
 -- ---- the call's contract allows one result
 

@@ -58,7 +58,8 @@ plans w b ceiling budget ms visits =
     }
 
 refuses : ℕ → List ℕ → ℕ → ℕ → Answer → Row
-refuses w b ceiling budget answer = record { width = w; height = 2; board = b; ceiling = ceiling; budget = budget; answer = answer; moves = [] }
+refuses w b ceiling budget answer =
+    record { width = w; height = 2; board = b; ceiling = ceiling; budget = budget; answer = answer; moves = [] }
 
 abbrev up : ℕ
 up = 0
@@ -89,8 +90,8 @@ rows =
     ∷ []
 
 pub worked : map seen rows ≡ map expected rows
-unfolding seen expected plans refuses rows firstOf firstRefusal under emptyCell isGoal staysOn leadsTo legal slide after trayDistance distanceFrom
-    distance lower inversions paritySum isOdd firstTooLarge firstHolding repeats firstRepeat faultTests better bestOf best masked second
+unfolding seen expected plans refuses rows firstOf firstRefusal under emptyCell isGoal staysOn leadsTo legal slide after trayDistance
+    distanceFrom distance lower inversions paritySum isOdd firstTooLarge firstHolding repeats firstRepeat faultTests better bestOf best masked second
     mayGoOn goesOn handedDown firstStored static takenUp turn work unlessGoal isSuccessor firstEntry firstRow visit search badCeiling
     ceilingOf badBudget badWeight limitTests shortBuffer lastTests tests searched concluded afterTests answered
 worked = refl

@@ -50,7 +50,8 @@ pub enum Out {
 pub fn run(job: Job, start: Position, budget: u32, moves: &mut [u8], table: &mut [u16]) -> Out
     requires { ⌜ (SmallJob job) × (Holds (job .shape) start) ⌝ }
     requires { ⌜ Room job (now table) (now moves) ⌝ }
-    ensures { λ r. ⌜ Searched job (held (job .shape) start) budget (now (moves .entry)) (now (table .entry)) r (now (moves .exit)) (now (table .exit)) ⌝ }
+    ensures { λ r. ⌜ Searched job (held (job .shape) start) budget (now (moves .entry)) (now (table .entry))
+        r (now (moves .exit)) (now (table .exit)) ⌝ }
 {
     let rows = 4 * (job.ceiling + 1);
     let out = from_start(job, start, budget, moves, &mut table[..rows]);

@@ -173,7 +173,8 @@ fn first_entry(
     requires { ⌜ (last ≤ 4) × ((g < job .ceiling) × (m < 4)) ⌝ }
     requires { ⌜ f ≡ static (boards (job .shape)) (job .weight) g (held (job .shape) p) ⌝ }
     requires { ⌜ NearTable (job .shape) (now near) ⌝ }
-    ensures { λ r. ⌜ r ≡ firstEntry (boards (job .shape)) (static (boards (job .shape)) (job .weight)) g (held (job .shape) p) last stored m ⌝ }
+    ensures { λ r. ⌜ r ≡ firstEntry (boards (job .shape)) (static (boards (job .shape)) (job .weight))
+        g (held (job .shape) p) last stored m ⌝ }
 {
     if takes_back(last, m) {
         return INFINITY;

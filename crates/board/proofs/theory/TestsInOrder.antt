@@ -46,7 +46,8 @@ module _ {R R′ : Type 0} (f : R → R′) where
   front-given us (here h) = here h
   front-given us (later h rest) = later h (front-given us rest)
 
-  pub behind-given : {ts : List (Test R)} {us : List (Test R′)} {r : R′} → NoneHolds ts → FirstToHold us r → FirstToHold (under f ts ++ us) r
+  pub behind-given : {ts : List (Test R)} {us : List (Test R′)} {r : R′} → NoneHolds ts → FirstToHold us r
+      → FirstToHold (under f ts ++ us) r
   unfolding under
   behind-given end first = first
   behind-given (past h rest) first = later h (behind-given rest first)
@@ -77,7 +78,8 @@ module _ {R R′ : Type 0} (f : R → R′) where
   none-split (t ∷ ts) (past h rest) = let both = none-split ts rest in (past h (both .0), both .1)
 
   -- the same of `firstRefusal`
-  pub front-refusal : (ts : List (Test R)) (us : List (Test R′)) (r : R) → firstRefusal ts ≡ some r → firstRefusal (under f ts ++ us) ≡ some (f r)
+  pub front-refusal : (ts : List (Test R)) (us : List (Test R′)) (r : R) → firstRefusal ts ≡ some r
+      → firstRefusal (under f ts ++ us) ≡ some (f r)
   front-refusal ts us r e = first-given (front-given us (first-means ts r e))
 
   pub behind-refusal : {ts : List (Test R)} (us : List (Test R′)) → NoneHolds ts → firstRefusal (under f ts ++ us) ≡ firstRefusal us
@@ -94,6 +96,7 @@ module _ {R R′ : Type 0} (f : R → R′) where
     where
       go : (b : Bool) → t .holds ≡ b
           → ((NoneHolds ts → firstRefusal us ≡ firstRefusal vs) → firstRefusal (under f ts ++ us) ≡ firstRefusal (under f ts ++ vs))
-          → cond b (some (f (t .refusal))) (firstRefusal (under f ts ++ us)) ≡ cond b (some (f (t .refusal))) (firstRefusal (under f ts ++ vs))
+          → cond b (some (f (t .refusal))) (firstRefusal (under f ts ++ us))
+          ≡ cond b (some (f (t .refusal))) (firstRefusal (under f ts ++ vs))
       go true h rest = refl
       go false h rest = rest (λ passed. same (past h passed))

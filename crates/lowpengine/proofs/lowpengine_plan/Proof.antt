@@ -17,9 +17,10 @@ same-length-2 c = search needs
 
 returns : tie.Need-returns
 returns c =
-    let start = c .before .before .before .before .before .before .before .before .before .before in
+    let planned = c .before .before .before .before in
+    let start = planned .before .before .before .before .before .before in
     same-ceiling _ _ _ _ _ _ _ _ _ _ _ _ _ (toZ-ofZ w32 _ (start .fits .ceiling))
-    (c .before .before .before .before .plan-in-bytes .ensures)
+    (planned .plan-in-bytes .ensures)
 
 pub lowpengine-plan-spec : {M : Type 1} → statement M
 lowpengine-plan-spec = tie.close (tie.spec plan-in-bytes-requires same-length same-length-2 returns)

@@ -14,7 +14,8 @@ same-length c = search needs
 
 returns : tie.Need-returns
 returns c =
-    record { answer = c .before .before .before .play .result; played = c .before .before .before .play .ensures; result = c .packed-play .ensures }
+    let played = c .before .before .before in
+    record { answer = played .play .result; played = played .play .ensures; result = c .packed-play .ensures }
 
 pub lowpengine-play-spec : {M : Type 1} → statement M
 lowpengine-play-spec = tie.close (tie.spec play-requires packed-play-requires same-length returns)

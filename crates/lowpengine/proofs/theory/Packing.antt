@@ -17,12 +17,13 @@ pub record Reads (x number cell length visits : ℕ) : Type 0 where
   pub length-read : x / 65536 % 65536 ≡ length
   pub visits-read : x / 2 ^ 32 ≡ visits
 
-reads-fields : (number cell length visits : ℕ) → Apart number cell length → Reads (packed number cell length visits) number cell length visits
+reads-fields : (number cell length visits : ℕ) → Apart number cell length
+    → Reads (packed number cell length visits) number cell length visits
 reads-fields number cell length visits apart =
     record { number-read = omega arith; cell-read = omega arith; length-read = omega arith; visits-read = omega arith }
 
 -- the answer of any call
-pub answer-reads : (c : Call) → Reads (packedPlan (answered c .answer)) (number (answered c .answer)) (cell (answered c .answer)) (planLength (answered c .answer)) (visits (answered c .answer))
+pub answer-reads : (c : Call) → let a = answered c .answer in Reads (packedPlan a) (number a) (cell a) (planLength a) (visits a)
 answer-reads c =
     let small = answered-small c in
     let a = answered c .answer in

@@ -33,7 +33,8 @@ use Rattle.planner.specs.declared.Answer.{Answer}
 use Rattle.planner.specs.declared.Answer.the-variants.{Refused}
 use Rattle.planner.specs.Limits.{badCeiling, ceilingOf, badBudget, badWeight, limitTests, saidOf, measured}
 use Rattle.planner.specs.Answer.{Call, shortBuffer, lastTests, tests, answered, called, within, Settles}
-use Rattle.planner.proofs.theory.Passing.{ceiling-passes, ceiling-named, weight-passes, buffers-pass, Kept, limits-kept, outside-means, within-means}
+use Rattle.planner.proofs.theory.Passing.{ceiling-passes, ceiling-named, weight-passes, buffers-pass, Kept, limits-kept}
+use Rattle.planner.proofs.theory.Passing.{outside-means, within-means}
 use Rattle.planner.proofs.theory.Ways.{refused-by}
 
 -- a test's result as the code has it, said of the test
@@ -66,7 +67,8 @@ module _ (z : ℤ) (budget p q : ℕ) where
   pub within-all : (k : ℕ) → k ≡ ceilingOf z → badCeiling z ≡ false → badBudget budget ≡ false → badWeight p q ≡ false
       → Within (record { ceiling = k; weight = record { p = p; q = q } }) ≡ measured z budget p q
   unfolding measured limitTests saidOf firstRefusal
-  within-all k is five six seven = rw (five, six, seven) (ap (λ (n : ℕ). Within (record { ceiling = n; weight = record { p = p; q = q } })) is)
+  within-all k is five six seven =
+      rw (five, six, seven) (ap (λ (n : ℕ). Within (record { ceiling = n; weight = record { p = p; q = q } })) is)
 
 -- the terms that are named keep the limits
 pub terms-kept : (z : ℤ) (budget p q : ℕ) (t : Terms) → measured z budget p q ≡ Within t
@@ -127,7 +129,8 @@ module _ (s : Shape) (b : List ℕ) (sound : GoodShape s × IsBoard s b) where
     of-terms t r moves′ table′ e settled =
         let means = within-means z budget p q t e in
         let five = limits-kept z budget p q (means .0) .ceiling-ok in
-        subst (λ (y : ℤ). Settles (answered (called (s .width) (s .height) b y budget p q moves table)) r moves′ table′) (ceiling-named z five)
+        subst (λ (y : ℤ). Settles (answered (called (s .width) (s .height) b y budget p q moves table)) r moves′ table′)
+        (ceiling-named z five)
         (subst (λ (u : Terms). Settles (answered (within s b u budget moves table)) r moves′ table′) (means .1) settled)
 
   module _ (t : Terms) (budget : ℕ) (kept : NoneHolds (limitTests (pos (t .ceiling)) budget (t .weight .p) (t .weight .q))) where

@@ -37,8 +37,10 @@ use Rattle.planner.specs.Limits.{badCeiling, ceilingOf, limitTests, limi
 use Rattle.planner.specs.Answer.{Call, Left, shapeOf, weightOf, cleared, lastTests, tests, searched, untouched, concluded, answered}
 use Rattle.planner.specs.Answer.{called, refusalNumber, number, visits}
 use Rattle.planner.proofs.theory.Passing.{GoodWeight, weight-passes, ceiling-passes, Kept, limits-kept}
-use Rattle.planner.proofs.theory.Ways.{Clear, clear, Refusing, by-board, by-limit, by-last, refusing, fault-number, limit-number, last-number, early-number}
-use Rattle.planner.proofs.theory.Ways.{refused-by, ran-to, Way, refused, ran, way, PlanFrom, TestRefused, NoPlanFrom, SpentFrom, From, made-from}
+use Rattle.planner.proofs.theory.Ways.{Clear, clear, Refusing, by-board, by-limit, by-last, refusing}
+use Rattle.planner.proofs.theory.Ways.{fault-number, limit-number, early-number}
+use Rattle.planner.proofs.theory.Ways.{refused-by, ran-to, Way, refused, ran, way, PlanFrom, TestRefused, NoPlanFrom, SpentFrom}
+use Rattle.planner.proofs.theory.Ways.{From, made-from}
 
 -- ---- legal lists to the goal, as the search's space has them
 
@@ -47,7 +49,8 @@ reaches-solves s b ms good board r =
     record {
       plays = r .plays;
       reaches =
-          isGoal-sound s (endBoard s b ms) (list-board s good ms b board (r .plays) .long) (passed (isGoal s (endBoard s b ms)) (r .arrives));
+          isGoal-sound s (endBoard s b ms) (list-board s good ms b board (r .plays) .long)
+          (passed (isGoal s (endBoard s b ms)) (r .arrives));
     }
 
 solves-reaches : (s : Shape) (b ms : List ℕ) → Solves s b ms → Reaches (boards s) b ms

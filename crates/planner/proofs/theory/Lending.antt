@@ -42,7 +42,10 @@ module _ (c : Call) (moves table : List ℕ) where
   same-end : (o : Outcome) → SameAnswer (concluded c o) moves (concluded (lending c moves table) o)
   unfolding concluded
   same-end (found ms left) =
-      record { answer = refl; moves-are = ap (λ (l : List ℕ). l ++ drop (length ms) moves) (sym (take-append-seam ms (drop (length ms) (c .moves)))) }
+      record {
+        answer = refl;
+        moves-are = ap (λ (l : List ℕ). l ++ drop (length ms) moves) (sym (take-append-seam ms (drop (length ms) (c .moves))));
+      }
   same-end (value v left) = record { answer = refl; moves-are = refl }
   same-end spent = record { answer = refl; moves-are = refl }
 
@@ -52,7 +55,8 @@ module _ (c : Call) (moves table : List ℕ) where
   same-after none = same-end (searched c)
 
   -- test 8 is asked only of a ceiling that is taken
-  pub by-test-8 : (badCeiling (c .ceiling) ≡ false → SameRoom c moves table) → SameAnswer (answered c) moves (answered (lending c moves table))
+  pub by-test-8 : (badCeiling (c .ceiling) ≡ false → SameRoom c moves table)
+      → SameAnswer (answered c) moves (answered (lending c moves table))
   unfolding answered tests lastTests firstRefusal
   by-test-8 room = rw same-first (same-after (firstRefusal (tests c)))
     where
@@ -97,9 +101,12 @@ table-left c = go (way c)
     room : NoneHolds (tests c) → rowsFor (ceilingOf (c .ceiling)) ≤ length (c .table)
     room passed = buffers-pass (ceilingOf (c .ceiling)) (length (c .moves)) (length (c .table)) (clear c passed .buffers) .1
 
+    ran-is : {l : Left} → answered c ≡ l → searchRan (answered c .answer) ≡ searchRan (l .answer)
+    ran-is w = ap (λ (l : Left). searchRan (l .answer)) w
+
     go : Way c → TableLeft c
     go (refused {why} first w) =
-        as-found (ap (λ (l : Left). searchRan (l .answer)) w ∙ not-searched why (early-number c (refusing c first) .1)) (ap (λ (l : Left). l .table) w)
-    go (ran passed (found ms left) run w) = zeroed (ap (λ (l : Left). searchRan (l .answer)) w) (room passed) (ap (λ (l : Left). l .table) w)
-    go (ran passed (value v left) run w) = zeroed (ap (λ (l : Left). searchRan (l .answer)) w) (room passed) (ap (λ (l : Left). l .table) w)
-    go (ran passed spent run w) = zeroed (ap (λ (l : Left). searchRan (l .answer)) w) (room passed) (ap (λ (l : Left). l .table) w)
+        as-found (ran-is w ∙ not-searched why (early-number c (refusing c first) .1)) (ap (λ (l : Left). l .table) w)
+    go (ran passed (found ms left) run w) = zeroed (ran-is w) (room passed) (ap (λ (l : Left). l .table) w)
+    go (ran passed (value v left) run w) = zeroed (ran-is w) (room passed) (ap (λ (l : Left). l .table) w)
+    go (ran passed spent run w) = zeroed (ran-is w) (room passed) (ap (λ (l : Left). l .table) w)

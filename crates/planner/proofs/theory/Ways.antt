@@ -25,7 +25,8 @@ use Rattle.planner.specs.declared.Refusal.the-variants.{Board, Beyond, S
 use Rattle.planner.specs.declared.Answer.{Answer}
 use Rattle.planner.specs.declared.Answer.the-variants.{Planned, Refused}
 use Rattle.planner.specs.Limits.{ceilingOf, limitTests, limitNumber}
-use Rattle.planner.specs.Answer.{Call, Left, shapeOf, shortBuffer, lastTests, tests, searched, untouched, concluded, afterTests, answered, refusalNumber}
+use Rattle.planner.specs.Answer.{Call, Left, shapeOf, shortBuffer, lastTests, tests, searched, untouched, concluded, afterTests}
+use Rattle.planner.specs.Answer.{answered, refusalNumber}
 use Rattle.planner.proofs.theory.Passing.{Kept, limits-kept}
 
 -- ---- the tests
@@ -45,7 +46,8 @@ clear c passed =
     let then = none-split Beyond (limitTests (c .ceiling) (c .budget) (c .p) (c .q)) (first .1) in
     go (board-of (c .width) (c .height) (c .board) (first .0)) (limits-kept (c .ceiling) (c .budget) (c .p) (c .q) (then .0)) (then .1)
   where
-    go : GoodShape (shapeOf c) × IsBoard (shapeOf c) (c .board) → Kept (c .ceiling) (c .budget) (c .p) (c .q) → NoneHolds (lastTests c) → Clear c
+    go : GoodShape (shapeOf c) × IsBoard (shapeOf c) (c .board) → Kept (c .ceiling) (c .budget) (c .p) (c .q)
+        → NoneHolds (lastTests c) → Clear c
     go good limits (past eight (past nine end)) =
         record { shape = good .0; board = good .1; limits = limits; buffers = eight; parity = nine }
 

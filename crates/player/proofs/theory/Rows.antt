@@ -57,6 +57,6 @@ rows =
     ∷ []
 
 pub worked : map (λ r. answerFor (r .width) (r .height) (r .board) (r .moves) (r .room)) rows ≡ map (λ r. r .expected) rows
-unfolding answerAfter answerOn comesTo firstBad badMove tested saidOf faultTests firstRefusal firstTooLarge firstHolding repeats firstRepeat firstOf
-    emptyCell isGoal staysOn leadsTo legal slide after
+unfolding answerAfter answerOn comesTo firstBad badMove tested saidOf faultTests firstRefusal firstTooLarge firstHolding repeats firstRepeat
+    firstOf emptyCell isGoal staysOn leadsTo legal slide after
 worked = refl

@@ -67,7 +67,8 @@ module _ (table : List ℕ) (g : ℕ) where
       → set (set (set (set table (4 * g) a) (4 * g + 1) b) (4 * g + 2) c) (4 * g + 3) d ≡ putRow table g (a ∷ b ∷ c ∷ d ∷ [])
   four-stores a b c d fits =
       rw (add-one (4 * g), add-two (4 * g), add-three (4 * g))
-      (sets-eq (a ∷ b ∷ c ∷ d ∷ []) table (4 * g) (omega arith) ∙ append-assoc (take (4 * g) table) (a ∷ b ∷ c ∷ d ∷ []) (drop (4 * g + 4) table))
+      (sets-eq (a ∷ b ∷ c ∷ d ∷ []) table (4 * g) (omega arith)
+      ∙ append-assoc (take (4 * g) table) (a ∷ b ∷ c ∷ d ∷ []) (drop (4 * g + 4) table))
 
   pub row-put : (r : List ℕ) → length r ≡ 4 → 4 * g ≤ length table → rowAt (putRow table g r) g ≡ r
   row-put r long fits =

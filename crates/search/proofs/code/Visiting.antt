@@ -107,5 +107,6 @@ module _ (job : Job) (b : List ℕ) (last g stored bound left : ℕ) (table move
       works further fits put e =
           ran-for
           (ap (λ (l : List ℕ). worked job b g bound l (left - 1)) (row-put-is job b last g stored table put fits e)
-          ∙ sym (visit-works (boards (job .shape)) _ g b last stored bound (job .ceiling - g) (job .ceiling - suc g) left some away (omega arith)))
+          ∙ sym (visit-works (boards (job .shape)) _ g b last stored bound (job .ceiling - g) (job .ceiling - suc g) left some away
+          (omega arith)))
           (rows-below job b last g stored table put fits e)

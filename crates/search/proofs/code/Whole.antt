@@ -35,7 +35,8 @@ started job b f budget table moves table′ moves′ r e ran =
 
 -- ---- the part of the table that is lent
 
-pub part-room : (job : Job) (table moves : List ℕ) (k : ℕ) → k ≡ rowsFor (job .ceiling) → Room job table moves → Room job (take k table) moves
+pub part-room : (job : Job) (table moves : List ℕ) (k : ℕ) → k ≡ rowsFor (job .ceiling) → Room job table moves
+    → Room job (take k table) moves
 part-room job table moves k e room =
     record { rows = omega (arith, length-take-le k table (omega (arith, room .rows)), e); path = room .path }
 

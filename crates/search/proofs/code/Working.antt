@@ -68,7 +68,8 @@ module _ (r : List ℕ) (x : Choice) (chosen : x ≡ best r) where
 
   pub chosen-legal : (s : Shape) (b : List ℕ) (bound : ℕ) → Legal (boards s) b r → goesOn bound r ≡ true → legal s b (x .step) ≡ true
   chosen-legal s b bound isOpen on =
-      passed (legal s b (x .step)) (subst (λ (y : Choice). T (legal s b (y .step))) (sym chosen) (best-legal (boards s) b bound r isOpen on))
+      passed (legal s b (x .step)) (subst (λ (y : Choice). T (legal s b (y .step))) (sym chosen)
+      (best-legal (boards s) b bound r isOpen on))
 
   -- the code's call is the visit that a turn makes
   pub called : (job : Job) (b next : List ℕ) (g bound least down left : ℕ) {table moves : List ℕ} {o : Out} {table′ moves′ : List ℕ}

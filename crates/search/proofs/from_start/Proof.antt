@@ -13,8 +13,9 @@ static-value-requires c κs = search needs
 
 visit-requires : tie.Need-visit-requires
 visit-requires c κs =
-    let start = c .before .before .before .before .before .before .before .before in
-    (start .pre .0 .0, (start .pre .0 .1, (omega arith, (c .before .before .before .before .before .near-table .ensures, start .pre .1))))
+    let near = c .before .before .before .before .before in
+    let entry = near .before .before .before in
+    (entry .pre .0 .0, (entry .pre .0 .1, (omega arith, (near .near-table .ensures, entry .pre .1))))
 
 same-length : tie.Need-same-length
 same-length c = search needs
@@ -24,7 +25,9 @@ same-length-2 c = search needs
 
 returns : tie.Need-returns
 returns c =
-    started _ _ _ _ _ _ _ _ _ (c .before .before .before .before .before .before .before .before .static-value .ensures) (c .before .before .before .before .visit .ensures)
+    let visited = c .before .before .before .before in
+    let valued = visited .before .before .before .before in
+    started _ _ _ _ _ _ _ _ _ (valued .static-value .ensures) (visited .visit .ensures)
 
 pub from-start-spec : {M : Type 1} → statement M
 from-start-spec =

@@ -50,7 +50,8 @@ module _ (visitOf : ℕ → ℕ → ℕ → ℕ → Outcome) (each : (m stored b
 
   -- ---- the work on a row, given the claim for each visit
 
-  module _ (once-more : (m stored bound left left′ : ℕ) → Again left (visitOf m stored bound left) left′ (visitOf m stored bound left′)) where
+  module _ (once-more : (m stored bound left left′ : ℕ)
+      → Again left (visitOf m stored bound left) left′ (visitOf m stored bound left′)) where
     -- the work went on with the value that a visit returned
     gone-on : (left left′ rest : ℕ) (v : ℕ) (m : ℕ) (r : List ℕ) (o′ : Outcome) (goOn′ : List ℕ → ℕ → Outcome) → rest < left
         → Again left (value v rest) left′ o′ → (o : Outcome) → Spends (suc rest) o
@@ -65,7 +66,8 @@ module _ (visitOf : ℕ → ℕ → ℕ → ℕ → Outcome) (each : (m stored b
         rw (returned rest′ (omega arith)) (further rest′ (omega arith) rest₂′ (omega arith))
     gone-on left left′ rest v m r o′ goOn′ less returned spent fewer further = tt
 
-    taken-again : (m left left′ : ℕ) (r : List ℕ) (o o′ : Outcome) (goOn goOn′ : List ℕ → ℕ → Outcome) → Spends left o → Again left o left′ o′
+    taken-again : (m left left′ : ℕ) (r : List ℕ) (o o′ : Outcome) (goOn goOn′ : List ℕ → ℕ → Outcome)
+        → Spends left o → Again left o left′ o′
         → ((r′ : List ℕ) (rest : ℕ) → Spends (suc rest) (goOn r′ rest))
         → ((r′ : List ℕ) (rest rest′ : ℕ) → rest < left → rest′ < left′ → Again rest (goOn r′ rest) rest′ (goOn′ r′ rest′))
         → Again left (takenUp m r o goOn) left′ (takenUp m r o′ goOn′)
@@ -94,7 +96,8 @@ module _ (visitOf : ℕ → ℕ → ℕ → ℕ → Outcome) (each : (m stored b
     work-again zero turns′ r left left′ h h′ = absurd (omega arith)
     work-again (suc turns) zero r left left′ h h′ = absurd (omega arith)
     work-again (suc turns) (suc turns′) r left left′ h h′ =
-        turn-again (goesOn bound r) left left′ r (λ r′ rest. work visitOf turns bound r′ rest) (λ r′ rest. work visitOf turns′ bound r′ rest)
+        turn-again (goesOn bound r) left left′ r (λ r′ rest. work visitOf turns bound r′ rest)
+        (λ r′ rest. work visitOf turns′ bound r′ rest)
         (λ r′ rest. work-spends visitOf each turns bound r′ rest)
         (λ r′ rest rest′ less less′. work-again turns turns′ r′ rest rest′ (omega arith) (omega arith))
 
@@ -133,7 +136,8 @@ module _ (S : Space) (f : ℕ → S .State → ℕ) where
       one-more left left′ (visit S f zero g s last stored bound (suc left)) (visit S f zero g s last stored bound (suc left′))
       (goal-again (S .atGoal s) left left′ (λ rest. value infinity rest) (λ rest′ e. ap (value infinity) (omega arith)))
   visit-again (suc deeper) g s last stored bound (suc left) (suc left′) =
-      one-more left left′ (visit S f (suc deeper) g s last stored bound (suc left)) (visit S f (suc deeper) g s last stored bound (suc left′))
+      one-more left left′ (visit S f (suc deeper) g s last stored bound (suc left))
+      (visit S f (suc deeper) g s last stored bound (suc left′))
       (goal-again (S .atGoal s) left left′
       (λ rest. work (λ m stored′ bound′ rest′. visit S f deeper (suc g) (S .makes s m) m stored′ bound′ rest′)
       (suc rest) bound (firstRow S f g s last stored) rest)

@@ -24,7 +24,9 @@ below-zero z y same e = of z (ap (λ x. ltZ x (pos 0)) (sym same) ∙ e)
     of (negsuc n) below = refl
 
 casts : (z y : ℤ) → y ≡ z → SFits w32 z → ltZ y (pos 0) ≡ false → T (nonNeg y) × Fits w64 (natAbs y)
-casts z y same fits e = subst (λ x. T (nonNeg x) × Fits w64 (natAbs x)) (sym same) (of z (ap (λ x. ltZ x (pos 0)) (sym same) ∙ e), fits-natAbs {w = w32} {w′ = w64} tt fits)
+casts z y same fits e =
+    subst (λ x. T (nonNeg x) × Fits w64 (natAbs x)) (sym same)
+    (of z (ap (λ x. ltZ x (pos 0)) (sym same) ∙ e), fits-natAbs {w = w32} {w′ = w64} tt fits)
   where
     of : (x : ℤ) → ltZ x (pos 0) ≡ false → T (nonNeg x)
     of (pos n) not-below = tt

@@ -78,7 +78,9 @@ clear-requires c κs = search needs
 
 packed-answer-requires : tie.Need-packed-answer-requires
 unfolding numbered
-packed-answer-requires c κs = fields-apart _ _ _ _ _ _ _ _ _ _ _ (answers (c .before .before .before .before))
+packed-answer-requires c κs =
+    let at-used = c .before .before .before .before in
+    fields-apart _ _ _ _ _ _ _ _ _ _ _ (answers at-used)
 
 same-length : tie.Need-same-length
 same-length c = search needs

@@ -32,9 +32,10 @@ place-told-requires c κs = search needs
 
 returns-2 : tie.Need-returns-2
 returns-2 c =
+    let told = c .before .before .before in
     c .place-told .ensures
     ∙ ap (λ n. min n farthest) (c .before .place .ensures)
-    ∙ elsewhere (c .before .before .before .before .args .a) (sym (c .before .before .before .is-goal .ensures) ∙ c .before .before .if1 .left)
+    ∙ elsewhere (told .before .args .a) (sym (told .is-goal .ensures) ∙ c .before .before .if1 .left)
 
 pub detail-spec : {M : Type 1} → statement M
 detail-spec =

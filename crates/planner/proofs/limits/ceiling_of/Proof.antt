@@ -25,7 +25,8 @@ number-of (negsuc n) e = absurd (true≢false e)
 
 cast-result : tie.Need-cast-result
 cast-result c =
-    subst (λ (z : ℤ). T (nonNeg z) × Fits w64 (natAbs z)) (sym (toZ-ofZ w32 (c .args .ceiling) (c .fits .ceiling))) (casts (c .args .ceiling) (c .pre))
+    subst (λ (z : ℤ). T (nonNeg z) × Fits w64 (natAbs z)) (sym (toZ-ofZ w32 (c .args .ceiling) (c .fits .ceiling)))
+    (casts (c .args .ceiling) (c .pre))
 
 returns : tie.Need-returns
 returns c = ap natAbs (toZ-ofZ w32 (c .args .ceiling) (c .fits .ceiling)) ∙ number-of (c .args .ceiling) (c .pre)

@@ -1,4 +1,5 @@
--- `planner_cases::input::next_number` meets its contract and ends: a digit is put behind at most 1,000,000, and the turns that are left fall.
+-- `planner_cases::input::next_number` meets its contract and ends: a digit is put behind at most 1,000,000, and the turns that are left
+-- fall.
 -- Assumes nothing.
 use Prim.Native.Nat.{_≤_}
 use borrow.Author.Needs.{needs}

@@ -39,7 +39,9 @@ legal-requires : tie.Need-legal-requires
 legal-requires c κs = search needs
 
 after-requires : tie.Need-after-requires
-after-requires c κs = (c .before .before .before .before .pre .1 .0, sym (c .before .legal .ensures) ∙ c .if2 .taken)
+after-requires c κs =
+    let entry = c .before .before .before .before in
+    (entry .pre .1 .0, sym (c .before .legal .ensures) ∙ c .if2 .taken)
 
 add-static-value : tie.Need-add-static-value
 add-static-value c = search needs

@@ -59,7 +59,8 @@ slice-write-table-3 c = simp length-set (omega arith)
 first-entry-requires-4 : tie.Need-first-entry-requires-4
 first-entry-requires-4 c κs =
     let pre = c .before .before .before .before .before .pre in
-    (pre .0, (pre .1 .0, ((pre .1 .1 .0 .0, (pre .1 .1 .0 .1, omega arith)), (c .before .before .before .static-value .ensures, pre .1 .1 .1 .0))))
+    let valued = c .before .before .before .static-value in
+    (pre .0, (pre .1 .0, ((pre .1 .1 .0 .0, (pre .1 .1 .0 .1, omega arith)), (valued .ensures, pre .1 .1 .1 .0))))
 
 add-table-3 : tie.Need-add-table-3
 add-table-3 c = search needs
@@ -78,7 +79,12 @@ unfolding firstRow
 returns c =
     let start = c .before .before .before .before .before .before in
     four-stores (start .args .table .now) (start .args .g) _ _ _ _ (start .pre .1 .1 .1 .1)
-    ∙ simp (c .first-entry4 .ensures, c .before .first-entry3 .ensures, c .before .before .first-entry2 .ensures, c .before .before .before .first-entry .ensures)
+    ∙ simp (
+      c .first-entry4 .ensures,
+      c .before .first-entry3 .ensures,
+      c .before .before .first-entry2 .ensures,
+      c .before .before .before .first-entry .ensures,
+    )
 
 pub first-row-spec : {M : Type 1} → statement M
 first-row-spec =

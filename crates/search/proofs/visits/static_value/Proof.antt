@@ -19,7 +19,8 @@ small-value : (job : Job) (p : Position) (g h : ℕ) → SmallJob job → Holds 
     → h ≡ distance (job .shape) (held (job .shape) p) → job .weight .q * g + job .weight .p * h ≤ 64 * 120 + 64 * 90
 small-value job p g h small holds within is =
     let far = distance-at-most-90 (job .shape) (held (job .shape) p) (holds .shape) (holds .board) in
-    let made : job .weight .q * g ≤ 64 * 120 = mul-le-mul {n₂ = 64} {m₂ = 120} (omega (arith, small .weight, small .most)) (omega (arith, small .ceiling)) in
+    let made : job .weight .q * g ≤ 64 * 120 =
+    mul-le-mul {n₂ = 64} {m₂ = 120} (omega (arith, small .weight, small .most)) (omega (arith, small .ceiling)) in
     let left : job .weight .p * h ≤ 64 * 90 = mul-le-mul {m₂ = 90} (small .most) (omega arith) in
     omega arith
 
