@@ -1,0 +1,3 @@
+-- What the proofs of functions cite: bytes put into a buffer, and the tests one after the other. Assumes nothing.
+pub mod Storing
+pub mod Testing

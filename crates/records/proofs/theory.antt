@@ -1,0 +1,8 @@
+-- About the definitions alone: rows computed of them, the laws of groups and marks, a record's pieces and length, what an answer means.
+-- Assumes nothing.
+pub mod Rows
+pub mod Grouping
+pub mod Marks
+pub mod Pieces
+pub mod Lengths
+pub mod Outcomes
