@@ -1,6 +1,6 @@
 -- What is promised of the entries, of any inputs, as a C programmer has them: of the result r and of the lent bytes. `PlanGiven c r moves′
 -- table′` is what lowpengine_plan gives for the inputs c, and with weight 1 over 1 what lowpengine_plan_short gives; `PlayGiven` is the
--- player's. Of a plan's result r % 256 is the number, r / 256 % 256 the cell, r / 65536 % 65536 the length and r / 2^32 the visits.
+-- player's and `RecordGiven` the record writer's. Of a plan's result r % 256 is the number, r / 256 % 256 the cell, r / 65536 % 65536 the length and r / 2^32 the visits.
 --     fields, settled    the result is taken apart again; any two results, lent bytes included, that a contract allows are equal
 --     table, moves       low byte first; nothing that stood in them matters; which bytes are changed, and that all others stay
 --     A, B1, B2, B3      the customer's conditions, in their order
@@ -14,7 +14,7 @@ use native.Mathlib.Omega.{arith}
 use lib.IntN.{negsuc}
 use lib.ListN.{length, take, drop, replicate}
 use Rattle.board.specs.Lists.{Solves}
-use Rattle.board.specs.Tests.{FirstToHold}
+use Rattle.board.specs.Tests.{FirstToHold, NoneHolds}
 use Rattle.search.specs.Run.{rowsFor}
 use Rattle.planner.specs.declared.Refusal.{Refusal}
 use Rattle.planner.specs.declared.Refusal.the-variants.{OddBoard, NoPlan, OutOfVisits}
@@ -33,12 +33,19 @@ use Rattle.player.specs.declared.Played.{Played}
 use Rattle.player.specs.declared.Played.the-variants.{End, Refused}
 use Rattle.player.specs.Answers.{answerNumber, refusalPlace}
 use Rattle.player.proofs.Laws.{settled}
+use Rattle.records.specs.declared.PlanRefusal.{PlanRefusal}
+use Rattle.records.specs.declared.Written.{Written}
+use Rattle.records.specs.declared.Written.the-variants.{Record, Refused as Unwritten}
+use Rattle.records.specs.Answers.{answerNumber as writtenNumber, refusalNumber as unwrittenNumber, refusalPlace as unwrittenPlace}
+use Rattle.records.specs.Record.{recordOf}
+use Rattle.records.specs.Write.{Given, fieldsOf, writeTests, written}
+use Rattle.records.proofs.Promises as wrote
 use Rattle.lowpengine.specs.Bytes.{AllBytes, numbers, bytesOf, oddByte, numbersUsed}
-use Rattle.lowpengine.specs.Packed.{packedPlan, farthest, playDetail, packedPlay}
-use Rattle.lowpengine.specs.Given.{inNumbers, PlanGiven, PlayGiven}
+use Rattle.lowpengine.specs.Packed.{packedPlan, farthest, playDetail, packedPlay, recordDetail, packedRecord}
+use Rattle.lowpengine.specs.Given.{inNumbers, PlanGiven, PlayGiven, RecordGiven}
 use Rattle.lowpengine.proofs.theory.Pairs.{count, back-to-bytes, cleared-bytes}
 use Rattle.lowpengine.proofs.theory.Used.{Used, used}
-use Rattle.lowpengine.proofs.theory.Packing.{Reads, answer-reads, play-number-read, play-detail-read}
+use Rattle.lowpengine.proofs.theory.Packing.{Reads, answer-reads, play-number-read, play-detail-read, record-number-read, record-detail-read}
 
 -- ---- fields
 
@@ -57,6 +64,10 @@ goal-told goal = play-detail-read (End goal)
 pub place-told : (why : PlayRefusal) → refusalPlace why < farthest → packedPlay (Refused why) / 256 ≡ refusalPlace why
 place-told why near = play-detail-read (Refused why) ∙ omega arith
 
+-- of every answer of the record writer: its number, and the detail
+pub record-fields : (a : Written) → (packedRecord a % 256 ≡ writtenNumber a) × (packedRecord a / 256 ≡ recordDetail a)
+record-fields a = (record-number-read a, record-detail-read a)
+
 -- ---- settled
 
 pub plan-settled : (c : Call) (r s : ℕ) (moves table moves′ table′ : List ℕ) → PlanGiven c r moves table → PlanGiven c s moves′ table′
@@ -69,6 +80,10 @@ pub play-settled : (width height : ℕ) (b moves found : List ℕ) (r s : ℕ) (
 play-settled width height b moves found r s out out′ one other =
     let same = settled width height b moves found (one .answer) (other .answer) out out′ (one .played) (other .played) in
     (one .result ∙ ap packedPlay (same .0) ∙ sym (other .result), same .1)
+
+pub record-settled : (g : Given) (found : List ℕ) (r s : ℕ) (out out′ : List ℕ)
+    → RecordGiven g found r out → RecordGiven g found s out′ → (r ≡ s) × (out ≡ out′)
+record-settled g found r s out out′ one other = (one .result ∙ sym (other .result), one .out ∙ sym (other .out))
 
 -- ---- table
 

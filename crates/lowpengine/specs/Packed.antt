@@ -1,5 +1,6 @@
 -- An answer as one 64-bit number. A plan's answer has four fields: the number (0 for a plan), the cell from bit 8, the length from
--- bit 16 and the visits from bit 32. A play's answer has the number (0 for a list that was played) and one detail from bit 8.
+-- bit 16 and the visits from bit 32. A play's answer has the number (0 for a list that was played) and one detail from bit 8, and so has
+-- the record writer's (0 for a record that was written).
 -- Assumes nothing.
 use Prim.Native.Nat.{ℕ, _+_, _*_, _-_, _^_, _<_, min}
 use mathlib.Core.Bool.{cond}
@@ -8,6 +9,9 @@ use Rattle.planner.specs.Answer.{number, cell, planLength, visits}
 use Rattle.player.specs.declared.Played.{Played}
 use Rattle.player.specs.declared.Played.the-variants.{End, Refused}
 use Rattle.player.specs.Answers.{answerNumber, refusalPlace}
+use Rattle.records.specs.declared.Written.{Written}
+use Rattle.records.specs.declared.Written.the-variants.{Record, Refused as Unwritten}
+use Rattle.records.specs.Answers.{answerNumber as writtenNumber, refusalPlace as unwrittenPlace}
 
 -- fields that do not run into each other
 pub record Apart (number cell length : ℕ) : Type 0 where
@@ -32,3 +36,11 @@ playDetail (Refused why) = min (refusalPlace why) farthest
 
 abbrev pub packedPlay : Played → ℕ
 packedPlay a = answerNumber a + 2 ^ 8 * playDetail a
+
+-- of a record that was written: its length; of a refusal: the cell of 3 and 4, the place of 13 and 14, else 0
+abbrev pub recordDetail : Written → ℕ
+recordDetail (Record length) = min length farthest
+recordDetail (Unwritten why) = min (unwrittenPlace why) farthest
+
+abbrev pub packedRecord : Written → ℕ
+packedRecord a = writtenNumber a + 2 ^ 8 * recordDetail a

@@ -6,12 +6,17 @@
 
 mod planning;
 mod playing;
+mod recording;
+mod told;
 
 use crate::planning::plan_in_bytes;
 use crate::playing::packed_play;
+use crate::recording::packed_record;
 use player::play;
+use records::write::write;
 ghost use Rattle.planner.specs.Answer.{called};
-ghost use Rattle.lowpengine.specs.Given.{PlanGiven, PlayGiven};
+ghost use Rattle.records.specs.Write.{given};
+ghost use Rattle.lowpengine.specs.Given.{PlanGiven, PlayGiven, RecordGiven};
 
 // Plans with the weight p over q. The answer's number, cell, length and visits come back as one number, at bits 0, 8, 16 and 32.
 #[no_mangle]
@@ -65,4 +70,25 @@ pub extern "C" fn lowpengine_play(
 {
     let answer = play(width, height, board, moves, out);
     packed_play(answer)
+}
+
+// Writes the record of a plan. The number comes back at bit 0; from bit 8 on the record's length, or a refusal's cell or place.
+#[no_mangle]
+pub extern "C" fn lowpengine_write_record(
+    width: u32,
+    height: u32,
+    board: &[u8],
+    ceiling: i32,
+    p: u32,
+    q: u32,
+    visits: u32,
+    moves: &[u8],
+    out: &mut [u8],
+) -> u64
+    ensures { λ r. ⌜ RecordGiven
+        (given width height (now (board .entry)) ceiling p q visits (now (moves .entry))) (now (out .entry))
+        r (now (out .exit)) ⌝ }
+{
+    let answer = write(width, height, board, ceiling, p, q, visits, moves, out);
+    packed_record(answer)
 }

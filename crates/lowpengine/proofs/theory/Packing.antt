@@ -1,5 +1,5 @@
 -- A packed answer is taken apart again: fields that stand apart come back as they were. First the four fields of a plan's answer, then the
--- two of a play's. Assumes nothing.
+-- two of a play's and of the record writer's. Assumes nothing.
 use Prim.Native.Nat.{ℕ, _/_, _%_, _^_}
 use mathlib.Core.Path.{_≡_}
 use native.Mathlib.Omega.{arith}
@@ -7,8 +7,10 @@ use Rattle.planner.specs.Answer.{Call, answered, number, cell, planLength, visi
 use Rattle.planner.proofs.theory.Small.{answered-small}
 use Rattle.player.specs.declared.Played.{Played}
 use Rattle.player.specs.Answers.{answerNumber}
-use Rattle.lowpengine.specs.Packed.{Apart, packed, packedPlan, playDetail, packedPlay}
-use Rattle.lowpengine.proofs.theory.Sizes.{play-number}
+use Rattle.records.specs.declared.Written.{Written}
+use Rattle.records.specs.Answers.{answerNumber as writtenNumber}
+use Rattle.lowpengine.specs.Packed.{Apart, packed, packedPlan, playDetail, packedPlay, recordDetail, packedRecord}
+use Rattle.lowpengine.proofs.theory.Sizes.{play-number, record-number}
 
 -- x read as four fields
 pub record Reads (x number cell length visits : ℕ) : Type 0 where
@@ -36,3 +38,10 @@ play-number-read a = omega (arith, play-number a)
 
 pub play-detail-read : (a : Played) → packedPlay a / 256 ≡ playDetail a
 play-detail-read a = omega (arith, play-number a)
+
+-- any answer of the record writer
+pub record-number-read : (a : Written) → packedRecord a % 256 ≡ writtenNumber a
+record-number-read a = omega (arith, record-number a)
+
+pub record-detail-read : (a : Written) → packedRecord a / 256 ≡ recordDetail a
+record-detail-read a = omega (arith, record-number a)

@@ -1,4 +1,5 @@
--- How large a play's answer is: the number is at most 14, and the detail at most 2^56 - 1. Assumes nothing.
+-- How large an answer is: a play's number is at most 14 and the record writer's at most 22, and the detail of both at most 2^56 - 1.
+-- Assumes nothing.
 use Prim.Native.Nat.{_≤_}
 use mathlib.Core.Bool.{Bool, true, false, cond}
 use native.Mathlib.Omega.{arith}
@@ -10,7 +11,16 @@ use Rattle.player.specs.declared.PlayRefusal.the-variants.{Board, ShortOutput, 
 use Rattle.player.specs.declared.Played.{Played}
 use Rattle.player.specs.declared.Played.the-variants.{End, Refused}
 use Rattle.player.specs.Answers.{refusalNumber, answerNumber}
-use Rattle.lowpengine.specs.Packed.{farthest, playDetail}
+use Rattle.planner.specs.declared.Limit.{Limit}
+use Rattle.planner.specs.declared.Limit.the-variants.{BadCeiling, BadBudget, BadWeight}
+use Rattle.planner.specs.Limits.{limitNumber}
+use Rattle.records.specs.declared.PlanRefusal.{PlanRefusal}
+use Rattle.records.specs.declared.PlanRefusal.the-variants.{Beyond, TooLong, NotSolved}
+use Rattle.records.specs.declared.PlanRefusal.the-variants.{Board as BadBoard, ShortOutput as NoRoom, NoMove as NoSuch, OffGrid as Off}
+use Rattle.records.specs.declared.Written.{Written}
+use Rattle.records.specs.declared.Written.the-variants.{Record, Refused as Unwritten}
+use Rattle.records.specs.Answers.{refusalNumber as unwrittenNumber, answerNumber as writtenNumber}
+use Rattle.lowpengine.specs.Packed.{farthest, playDetail, recordDetail}
 
 fault-number : (f : Fault) → faultNumber f ≤ 4
 fault-number BadShape = omega arith
@@ -35,3 +45,25 @@ goal-detail false = omega arith
 pub play-detail : (a : Played) → playDetail a ≤ farthest
 play-detail (End goal) = goal-detail goal
 play-detail (Refused why) = omega arith
+
+limit-number : (l : Limit) → limitNumber l ≤ 7
+limit-number BadCeiling = omega arith
+limit-number BadBudget = omega arith
+limit-number BadWeight = omega arith
+
+unwritten-number : (why : PlanRefusal) → unwrittenNumber why ≤ 22
+unwritten-number (BadBoard fault) = omega (arith, fault-number fault)
+unwritten-number (Beyond limit) = omega (arith, limit-number limit)
+unwritten-number TooLong = omega arith
+unwritten-number (NoSuch i) = omega arith
+unwritten-number (Off i) = omega arith
+unwritten-number NotSolved = omega arith
+unwritten-number NoRoom = omega arith
+
+pub record-number : (a : Written) → writtenNumber a ≤ 22
+record-number (Record length) = omega arith
+record-number (Unwritten why) = unwritten-number why
+
+pub record-detail : (a : Written) → recordDetail a ≤ farthest
+record-detail (Record length) = omega arith
+record-detail (Unwritten why) = omega arith

@@ -27,15 +27,15 @@ returns c = at-goal (c .before .before .args .a) (sym (c .before .is-goal .ensur
 place-requires : tie.Need-place-requires
 place-requires c κs = search needs
 
-place-told-requires : tie.Need-place-told-requires
-place-told-requires c κs = search needs
+told-requires : tie.Need-told-requires
+told-requires c κs = search needs
 
 returns-2 : tie.Need-returns-2
 returns-2 c =
-    let told = c .before .before .before in
-    c .place-told .ensures
+    let asked = c .before .before .before in
+    c .told .ensures
     ∙ ap (λ n. min n farthest) (c .before .place .ensures)
-    ∙ elsewhere (told .before .args .a) (sym (told .is-goal .ensures) ∙ c .before .before .if1 .left)
+    ∙ elsewhere (asked .before .args .a) (sym (asked .is-goal .ensures) ∙ c .before .before .if1 .left)
 
 pub detail-spec : {M : Type 1} → statement M
 detail-spec =
@@ -44,5 +44,5 @@ detail-spec =
     is-goal-requires
     returns
     place-requires
-    place-told-requires
+    told-requires
     returns-2)
