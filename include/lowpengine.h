@@ -1,5 +1,5 @@
 /*
- * lowpengine.h: planner and player for sliding tray cabinets of 2 by 2 to 4 by 4 cells.
+ * lowpengine.h: planner, player and plan records for sliding tray cabinets of 2 by 2 to 4 by 4 cells.
  *
  * Link with liblowpengine.a. All state is in the arguments: any number of threads may call at the same time, each with buffers
  * of its own. No entry allocates, prints, keeps a pointer or fails to return. 64 KiB of stack are enough for any call.
@@ -27,7 +27,8 @@ enum {
     LOWPENGINE_CELLS = 16,          /* bytes of the largest board */
     LOWPENGINE_MOVES = 120,         /* bytes of the longest plan, and the highest ceiling */
     LOWPENGINE_TABLE_NUMBERS = 484, /* numbers of the largest table, 4 * (120 + 1) */
-    LOWPENGINE_TABLE_BYTES = 968    /* the same in bytes, two for each number, low byte first */
+    LOWPENGINE_TABLE_BYTES = 968,   /* the same in bytes, two for each number, low byte first */
+    LOWPENGINE_RECORD_BYTES = 149   /* bytes of the longest record */
 };
 
 /* Where the empty cell goes. */
@@ -35,24 +36,27 @@ enum lowpengine_move { LOWPENGINE_UP = 0, LOWPENGINE_LEFT = 1, LOWPENGINE_RIGHT 
 
 /*
  * What an answer says: 0 if it was done, else why it was refused. Each number has one name, whichever entry answers it, so one
- * switch can serve all entries. The planner entries answer 0 to 11; lowpengine_play answers 0, 1 to 4, 8, 13 and 14.
+ * switch can serve all entries. The planner entries answer 0 to 11; lowpengine_play answers 0, 1 to 4, 8, 13 and 14;
+ * lowpengine_write_record answers 0, 1 to 8, 13, 14, 21 and 22.
  */
 enum lowpengine_result {
-    LOWPENGINE_DONE = 0,            /* not refused: a plan was found; every move was played */
+    LOWPENGINE_DONE = 0,            /* not refused: a plan was found; every move was played; the record was written */
     LOWPENGINE_BAD_SHAPE = 1,       /* width or height is not 2, 3 or 4 */
     LOWPENGINE_BAD_LENGTH = 2,      /* the board has not n bytes */
     LOWPENGINE_BAD_VALUE = 3,       /* a byte of the board is n or more; the cell is the first such */
     LOWPENGINE_REPEATED_VALUE = 4,  /* a byte of the board stands twice; the cell is the first that repeats an earlier one */
     LOWPENGINE_BAD_CEILING = 5,     /* the ceiling is not 0 to 120 */
-    LOWPENGINE_BAD_BUDGET = 6,      /* the budget is not 1 to 1,000,000 */
+    LOWPENGINE_BAD_BUDGET = 6,      /* the budget, or a record's visits, is not 1 to 1,000,000 */
     LOWPENGINE_BAD_WEIGHT = 7,      /* the weight p over q has q = 0, p < q or p > 64 */
-    LOWPENGINE_SHORT_BUFFER = 8,    /* a buffer is too short: moves or table of a plan, out of a play */
+    LOWPENGINE_SHORT_BUFFER = 8,    /* a buffer is too short: moves or table of a plan, out of a play or a record */
     LOWPENGINE_UNREACHABLE = 9,     /* no list of moves, however long, leads from this board to the goal */
     LOWPENGINE_NO_PLAN = 10,        /* no list of moves within the ceiling leads to the goal */
     LOWPENGINE_BUDGET_SPENT = 11,   /* the budget ran out before the search could tell */
     LOWPENGINE_MALFORMED_TEXT = 12, /* of the job program alone: its input is no job line; no entry answers this */
     LOWPENGINE_BAD_MOVE = 13,       /* a byte of the move list is above 3; the place is its index */
-    LOWPENGINE_OFF_GRID = 14        /* a move takes the empty cell off the grid; the place is its index */
+    LOWPENGINE_OFF_GRID = 14,       /* a move takes the empty cell off the grid; the place is its index */
+    LOWPENGINE_ABOVE_CEILING = 21,  /* the move list is longer than the ceiling */
+    LOWPENGINE_NOT_SOLVED = 22      /* the move list does not end at the goal */
 };
 
 /*
@@ -102,6 +106,33 @@ uint64_t lowpengine_plan_short(uint32_t width, uint32_t height, const uint8_t *b
 uint64_t lowpengine_play(uint32_t width, uint32_t height, const uint8_t *board, size_t board_len, const uint8_t *moves,
                          size_t moves_len, uint8_t *out, size_t out_len);
 
+/*
+ * Writes a plan as a record, for storing it or for sending it to another cabinet.
+ *
+ *   ceiling  as the plan was asked for,
+ *   p, q     and so the weight; both are tested as lowpengine_plan tests them
+ *   visits   what the search took, as lowpengine_visits gives it; tested as a budget, 1 to 1,000,000
+ *   moves    the plan: moves_len is its length, not the size of the buffer that it stands in
+ *   out      receives the record; LOWPENGINE_RECORD_BYTES always serve
+ *
+ * A record is, one behind the other: width, height, the n cells, ceiling, p, q, visits and the number of moves; the moves, a
+ * byte each; and a mark of four bytes, high byte first. A number is groups of seven bits, the most significant group first, with
+ * the top bit set on all groups but the last and no group too many: one byte below 128, two below 16,384, three for the largest
+ * visits. The mark is 32-bit FNV-1a (start 2166136261, factor 16777619) of all bytes before it.
+ *
+ * Tested in this order: 1 to 4 as above; 5, 6 (the visits) and 7; 21 if there are more moves than the ceiling; the moves one after
+ * the other, and the first bad one is the answer, 13 or 14; 22 if the list does not end at the goal; 8 if out is shorter than
+ * the record. So what is written leads to the goal within the ceiling. That a search found it is not tested: any such list is
+ * taken. When the number is 0, out begins with the record and the rest of out stays. A refusal leaves the whole of out as
+ * before. What stood in out never matters.
+ *
+ * The answer is taken apart by lowpengine_number, lowpengine_record_length, and lowpengine_place for the cell of 3 and 4 and the
+ * index of the bad move of 13 and 14.
+ */
+uint64_t lowpengine_write_record(uint32_t width, uint32_t height, const uint8_t *board, size_t board_len, int32_t ceiling,
+                                 uint32_t p, uint32_t q, uint32_t visits, const uint8_t *moves, size_t moves_len, uint8_t *out,
+                                 size_t out_len);
+
 /* Of any answer: LOWPENGINE_DONE or the refusal. */
 static inline enum lowpengine_result lowpengine_number(uint64_t answer) { return (enum lowpengine_result)(answer & 0xff); }
 
@@ -114,11 +145,14 @@ static inline uint32_t lowpengine_length(uint64_t answer) { return (uint32_t)(an
 /* Of a plan answer: the visits made, 0 for 1 to 9. */
 static inline uint32_t lowpengine_visits(uint64_t answer) { return (uint32_t)(answer >> 32); }
 
-/* Of a refused play: the cell of 3 and 4, the index of the bad move of 13 and 14, else 0. */
+/* Of a refused play or record: the cell of 3 and 4, the index of the bad move of 13 and 14, else 0. */
 static inline uint64_t lowpengine_place(uint64_t answer) { return (answer & 0xff) == 0 ? 0 : answer >> 8; }
 
 /* Of a play: 1 if every move was played and the board reached is the goal, else 0. */
 static inline int lowpengine_is_goal(uint64_t answer) { return answer == 1u << 8; }
+
+/* Of a record: its bytes, 0 for a refusal. */
+static inline uint32_t lowpengine_record_length(uint64_t answer) { return (answer & 0xff) == 0 ? (uint32_t)(answer >> 8) : 0; }
 
 #ifdef __cplusplus
 }

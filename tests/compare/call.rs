@@ -13,6 +13,7 @@ pub enum Entry {
     Plan = 0,
     PlanShort = 1,
     Play = 2,
+    WriteRecord = 3,
 }
 
 /// Where a slice lies in the memory. A null one is empty and passed as a null pointer.
@@ -23,7 +24,8 @@ pub struct Part {
     pub null: bool,
 }
 
-/// `parts` are board, moves and table of a plan; board, moves and output of a play. A number that an entry lacks is 0.
+/// `parts` are board, moves and table of a plan; board, moves and output of a play and of a record, whose visits stand as the
+/// budget. A number that an entry lacks is 0.
 #[derive(Clone)]
 pub struct Call {
     pub entry: Entry,
@@ -71,6 +73,13 @@ impl Call {
         Call { entry: Entry::Play, width, height, ceiling: 0, budget: 0, p: 0, q: 0, parts, memory }
     }
 
+    /// A call of the record writer with an output of the given size.
+    pub fn write_record(random: &Random, order: &Order, moves: &[u8], out: usize) -> Call {
+        let mut call = Call { entry: Entry::WriteRecord, ..Call::plan(random, order, moves.len(), out) };
+        call.memory[call.parts[1].at..][..moves.len()].copy_from_slice(moves);
+        call
+    }
+
     pub fn part(&self, number: usize) -> &[u8] {
         &self.memory[self.parts[number].at..][..self.parts[number].len]
     }
@@ -85,6 +94,7 @@ impl Call {
             Entry::Plan => entries::plan(&order, &mut moves, &mut third),
             Entry::PlanShort => entries::plan_short(&order, &mut moves, &mut third),
             Entry::Play => entries::play(width, height, board, &moves, &mut third),
+            Entry::WriteRecord => entries::write_record(&order, &moves, &mut third),
         };
         let mut memory = self.memory.clone();
         memory[self.parts[1].at..][..moves.len()].copy_from_slice(&moves);
@@ -94,7 +104,7 @@ impl Call {
 
     /// The name of the byte at a place of the memory.
     pub fn name_of_byte(&self, at: usize) -> String {
-        let third = if self.entry == Entry::Play { "output" } else { "table" };
+        let third = if matches!(self.entry, Entry::Play | Entry::WriteRecord) { "output" } else { "table" };
         for (part, name) in self.parts.iter().zip(["board", "moves", third]) {
             if (part.at..part.at + part.len).contains(&at) {
                 return format!("{name} byte {}", at - part.at);
@@ -129,6 +139,10 @@ impl fmt::Display for Call {
             Entry::Plan => write!(to, "ceiling {ceiling}, budget {budget}, weight {p}/{q}, ")?,
             Entry::PlanShort => write!(to, "ceiling {ceiling}, budget {budget}, short call, ")?,
             Entry::Play => return write!(to, "moves {:?}, {} output bytes", self.part(1), third.len),
+            Entry::WriteRecord => {
+                write!(to, "ceiling {ceiling}, weight {p}/{q}, visits {budget}, ")?;
+                return write!(to, "moves {:?}, {} output bytes of a record", self.part(1), third.len);
+            }
         }
         write!(to, "{} move bytes, {} table bytes", moves.len, third.len)
     }

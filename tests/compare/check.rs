@@ -11,7 +11,8 @@ const BATCH: usize = 2_000;
 /// Differences that are printed before a worker gives up.
 const MOST_PRINTED: usize = 5;
 
-/// What was compared: calls and claims by kind, the library's visits, and the numbers that it answered to plans and to plays.
+/// What was compared: calls and claims by kind, the library's visits, and the numbers that it answered to plans, to plays and to
+/// records.
 #[derive(Default)]
 pub struct Tally {
     pub kinds: BTreeMap<&'static str, usize>,
@@ -22,6 +23,7 @@ pub struct Tally {
     pub unclaimed: usize,
     pub plans: BTreeMap<u8, usize>,
     pub plays: BTreeMap<u8, usize>,
+    pub records: BTreeMap<u8, usize>,
     pub differences: usize,
 }
 
@@ -33,6 +35,7 @@ impl Tally {
         other.kinds.into_iter().for_each(|(kind, count)| *self.kinds.entry(kind).or_default() += count);
         merge(&mut self.plans, other.plans);
         merge(&mut self.plays, other.plays);
+        merge(&mut self.records, other.records);
         self.calls += other.calls;
         self.visits += other.visits;
         self.unclaimed += other.unclaimed;
@@ -93,8 +96,12 @@ impl<'a> Checker<'a> {
     fn compare_one(&mut self, kind: &'static str, before: &Call, answer: u64, after: &[u8]) {
         *self.tally.kinds.entry(kind).or_default() += 1;
         self.tally.calls += 1;
-        let numbers = if before.entry == Entry::Play { &mut self.tally.plays } else { &mut self.tally.plans };
-        self.tally.visits += if before.entry == Entry::Play { 0 } else { answer >> 32 };
+        let (numbers, visits) = match before.entry {
+            Entry::Plan | Entry::PlanShort => (&mut self.tally.plans, answer >> 32),
+            Entry::Play => (&mut self.tally.plays, 0),
+            Entry::WriteRecord => (&mut self.tally.records, 0),
+        };
+        self.tally.visits += visits;
         *numbers.entry((answer & 0xff) as u8).or_default() += 1;
         let (expected, memory) = before.expected();
         if answer != expected {
@@ -129,7 +136,7 @@ impl<'a> Checker<'a> {
 fn shown(call: &Call, answer: u64) -> String {
     let number = answer & 0xff;
     match call.entry {
-        Entry::Play => format!("number {number} with {}", answer >> 8),
+        Entry::Play | Entry::WriteRecord => format!("number {number} with {}", answer >> 8),
         _ => format!(
             "number {number}, cell {}, length {}, visits {}",
             answer >> 8 & 0xff,

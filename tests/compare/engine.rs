@@ -23,6 +23,8 @@ mod entries {
             moves: *mut u8, moves_len: usize, table: *mut u8, table_len: usize) -> u64;
         pub fn lowpengine_play(width: u32, height: u32, board: *const u8, board_len: usize,
             moves: *const u8, moves_len: usize, out: *mut u8, out_len: usize) -> u64;
+        pub fn lowpengine_write_record(width: u32, height: u32, board: *const u8, board_len: usize, ceiling: i32, p: u32, q: u32,
+            visits: u32, moves: *const u8, moves_len: usize, out: *mut u8, out_len: usize) -> u64;
     }
 }
 
@@ -48,6 +50,9 @@ fn call_linked(call: &mut Call) -> u64 {
             Entry::Plan => lowpengine_plan(width, height, board, b, ceiling, budget, p, q, moves, m, third, t),
             Entry::PlanShort => lowpengine_plan_short(width, height, board, b, ceiling, budget, moves, m, third, t),
             Entry::Play => lowpengine_play(width, height, board, b, moves, m, third, t),
+            Entry::WriteRecord => {
+                lowpengine_write_record(width, height, board, b, ceiling, p, q, budget, moves, m, third, t)
+            }
         }
     }
 }

@@ -14,6 +14,7 @@ mod damage;
 mod engine;
 mod plays;
 mod random;
+mod records;
 mod small;
 mod vectors;
 mod wild;
@@ -45,6 +46,7 @@ fn tasks(vectors: Option<PathBuf>, share: usize) -> Vec<Task> {
         tasks.push(Box::new(move |checker| boards::shuffles(checker, part, 126usize.div_ceil(share))));
         tasks.push(Box::new(move |checker| wild::run(checker, part, 2_500usize.div_ceil(share))));
         tasks.push(Box::new(move |checker| plays::run(checker, part, 180usize.div_ceil(share))));
+        tasks.push(Box::new(move |checker| records::run(checker, part, 60usize.div_ceil(share))));
     }
     let small = [(2, 2, 1), (2, 3, 1), (3, 2, 1), (2, 4, 9), (4, 2, 9), (3, 3, 61)];
     let large = [(3, 4, 1), (4, 3, 1), (4, 4, 1)];
@@ -92,7 +94,9 @@ fn missing(tally: &Tally) -> Vec<String> {
     let plans = (0..=11).filter(|number| !tally.plans.contains_key(number)).map(|number| format!("plan {number}"));
     let numbers = [0, 1, 2, 3, 4, 8, 13, 14].into_iter();
     let plays = numbers.filter(|number| !tally.plays.contains_key(number)).map(|number| format!("play {number}"));
-    plans.chain(plays).collect()
+    let numbers = (0..=8).chain([13, 14, 21, 22]);
+    let records = numbers.filter(|number| !tally.records.contains_key(number)).map(|number| format!("record {number}"));
+    plans.chain(plays).chain(records).collect()
 }
 
 fn main() {
@@ -114,6 +118,7 @@ fn main() {
     }
     println!("answers to plans: {} ({} visits)", listed(&tally.plans), tally.visits);
     println!("answers to plays: {}", listed(&tally.plays));
+    println!("answers to records: {}", listed(&tally.records));
     println!("no claim on legal lists, the budget was spent: {}", tally.unclaimed);
     println!("damaged job texts written: {}", damage::write(damaged.as_ref()));
     if share > 1 {

@@ -43,7 +43,7 @@ pub fn run(checker: &mut Checker, task: usize, rounds: usize) {
 }
 
 /// A board, and a list of legal moves from it to the goal.
-fn way_to_goal(random: &Random, shape: Shape) -> (Board, Vec<u8>) {
+pub fn way_to_goal(random: &Random, shape: Shape) -> (Board, Vec<u8>) {
     let (mut board, mut moves) = (shape.goal(), Vec::new());
     for _ in 0..random.below(if random.one_in(10) { 5_000 } else { 60 }) {
         let to = random.below(4) as u8;
@@ -57,7 +57,7 @@ fn way_to_goal(random: &Random, shape: Shape) -> (Board, Vec<u8>) {
 }
 
 /// Moves that keep an empty cell that starts at a given place on the grid.
-fn legal_list(random: &Random, shape: Shape, mut empty: usize) -> Vec<u8> {
+pub fn legal_list(random: &Random, shape: Shape, mut empty: usize) -> Vec<u8> {
     let mut moves = Vec::new();
     for _ in 0..random.below(40) {
         let to = random.below(4) as u8;

@@ -1,10 +1,10 @@
-//! The stored vectors: answers of yet another program. Jobs and plays are put to the second version and to the library, whole
-//! texts to the second version's job reader.
+//! The stored vectors: answers of yet another program. Jobs, plays and records are put to the second version and to the library,
+//! whole texts to the second version's job reader.
 
 use crate::call::Call;
 use crate::check::Checker;
 use crate::random::Random;
-use second::planner::Answer;
+use second::planner::{Answer, Order};
 use second::{entries, job};
 use std::fs;
 use std::path::Path;
@@ -32,6 +32,7 @@ pub fn run(checker: &mut Checker, folder: &Path) {
     texts(checker, folder);
     jobs(checker, &random, folder);
     plays(checker, &random, folder);
+    records(checker, &random, folder);
 }
 
 fn texts(checker: &mut Checker, folder: &Path) {
@@ -84,6 +85,38 @@ fn plays(checker: &mut Checker, random: &Random, folder: &Path) {
     }
 }
 
+fn records(checker: &mut Checker, random: &Random, folder: &Path) {
+    let (mut calls, mut wanted) = (Vec::new(), Vec::new());
+    for (line, expected) in lines(folder, "records-write.txt") {
+        let fields: Vec<&str> = line.split(':').collect();
+        let [head, cells, moves] = fields[..] else { panic!("not a record: {line}") };
+        let (head, cells, moves) = (numbers::<i64>(head), numbers::<u8>(cells), numbers::<u8>(moves));
+        let [width, height, ceiling, p, q, visits, out] = head[..] else { panic!("not a record's numbers: {line}") };
+        let word = |number: i64| u32::try_from(number).unwrap_or_else(|_| panic!("not 32 bits: {line}"));
+        let order = Order {
+            width: word(width),
+            height: word(height),
+            board: &cells,
+            ceiling: i32::try_from(ceiling).unwrap_or_else(|_| panic!("not a ceiling: {line}")),
+            budget: word(visits),
+            p: word(p),
+            q: word(q),
+        };
+        let mut bytes = vec![0; out as usize];
+        let answer = entries::write_record(&order, &moves, &mut bytes);
+        let wrote = record_line(answer, &bytes);
+        checker.claim("vectors: records, second version", wrote == expected, || format!("{line}\n  {wrote}, not {expected}"));
+        calls.push(Call::write_record(random, &order, &moves, out as usize));
+        wanted.push(expected);
+    }
+    for ((answer, call), expected) in
+        checker.ask("vectors: records, library and second version", calls).into_iter().zip(wanted)
+    {
+        let wrote = record_line(answer, call.part(2));
+        checker.claim("vectors: records, library", wrote == expected, || format!("{call}\n  {wrote}, not {expected}"));
+    }
+}
+
 fn unpacked(answer: u64) -> Answer {
     let visits = (answer >> 32) as u32;
     match (answer & 0xff) as u8 {
@@ -97,6 +130,16 @@ fn play_line(answer: u64, end: &[u8]) -> String {
     match answer & 0xff {
         0 if answer >> 8 == 1 => format!("end yes{cells}"),
         0 => format!("end no{cells}"),
+        number => format!("refused {number} {}", answer >> 8),
+    }
+}
+
+fn record_line(answer: u64, out: &[u8]) -> String {
+    match answer & 0xff {
+        0 => {
+            let bytes: String = out[..(answer >> 8) as usize].iter().map(|byte| format!("{byte:02x}")).collect();
+            format!("record {bytes}")
+        }
         number => format!("refused {number} {}", answer >> 8),
     }
 }

@@ -2,6 +2,10 @@
 
 use crate::planner::{self, Answer, Order};
 use crate::player::{self, Played};
+use crate::records::{self, Written};
+
+/// The highest place that an answer can hold.
+const HIGHEST_PLACE: u64 = (1 << 56) - 1;
 
 /// Plans with a table of bytes. An odd last byte is no part of the table.
 pub fn plan(order: &Order, moves: &mut [u8], table: &mut [u8]) -> u64 {
@@ -28,9 +32,16 @@ pub fn packed(answer: Answer) -> u64 {
 
 /// Plays; the number, then from bit 8 whether it ends at the goal, or the place of the fault.
 pub fn play(width: u32, height: u32, board: &[u8], moves: &[u8], out: &mut [u8]) -> u64 {
-    const HIGHEST_PLACE: u64 = (1 << 56) - 1;
     match player::play(width, height, board, moves, out) {
         Played::End { goal } => (goal as u64) << 8,
         Played::Refused { number, place } => number as u64 | (place as u64).min(HIGHEST_PLACE) << 8,
+    }
+}
+
+/// Writes a record; the number, then from bit 8 the record's length, or the place of the fault.
+pub fn write_record(order: &Order, moves: &[u8], out: &mut [u8]) -> u64 {
+    match records::write(order, moves, out) {
+        Written::Record { length } => (length as u64) << 8,
+        Written::Refused { number, place } => number as u64 | (place as u64).min(HIGHEST_PLACE) << 8,
     }
 }

@@ -31,20 +31,28 @@ fn faulty(fault: Fault) -> Answer {
     Answer::Refused { number: fault.number(), cell: fault.cell(), visits: 0 }
 }
 
+/// The refusal for a ceiling, a budget or a weight beyond its limits.
+pub fn beyond(order: &Order) -> Option<u8> {
+    if order.ceiling < 0 || order.ceiling > 120 {
+        return Some(5);
+    }
+    if order.budget < 1 || order.budget > 1_000_000 {
+        return Some(6);
+    }
+    if order.q == 0 || order.p < order.q || order.p > 64 {
+        return Some(7);
+    }
+    None
+}
+
 /// Plans the order. `moves` receives the plan; the part of `table` that the ceiling asks for is left as zeros.
 pub fn plan(order: &Order, moves: &mut [u8], table: &mut [u16]) -> Answer {
     let (shape, start) = match board::read(order.width, order.height, order.board) {
         Ok(read) => read,
         Err(fault) => return faulty(fault),
     };
-    if order.ceiling < 0 || order.ceiling > 120 {
-        return refused(5);
-    }
-    if order.budget < 1 || order.budget > 1_000_000 {
-        return refused(6);
-    }
-    if order.q == 0 || order.p < order.q || order.p > 64 {
-        return refused(7);
+    if let Some(number) = beyond(order) {
+        return refused(number);
     }
     let ceiling = order.ceiling as usize;
     let room = 4 * (ceiling + 1);

@@ -5,6 +5,7 @@ use crate::entries;
 use crate::job;
 use crate::planner::{plan, Answer, Order};
 use crate::player::{play, Played};
+use crate::records::{self, Written};
 
 /// The answer line of a job given as text without its line feed.
 fn answer(line: &str) -> String {
@@ -194,4 +195,60 @@ fn moves_distance_and_parity() {
     cells[..4].copy_from_slice(&[3, 2, 1, 0]);
     assert_eq!(Board { cells, empty: 3 }.distance(Shape { width: 2, height: 2 }), 6);
     assert_eq!(crate::board::read(258, 2, &[0; 4]), Err(Fault::Shape));
+}
+
+/// The published marks of no bytes, of `a` and of `foobar`.
+#[test]
+fn marks() {
+    let rows = [("", 0x811c_9dc5), ("a", 0xe40c_292c), ("foobar", 0xbf9c_f968)];
+    for (text, mark) in rows {
+        assert_eq!(records::mark(text.as_bytes()), mark, "{text}");
+    }
+}
+
+const STORED: Order = Order { width: 2, height: 2, board: &[3, 2, 1, 0], ceiling: 6, budget: 7, p: 1, q: 1 };
+
+#[test]
+fn record_worked_by_hand() {
+    let mut out = [9; 22];
+    assert_eq!(records::write(&STORED, &[0, 1, 3, 2, 0, 1], &mut out[..20]), Written::Refused { number: 8, place: 0 });
+    assert_eq!(out, [9; 22]);
+    assert_eq!(records::write(&STORED, &[0, 1, 3, 2, 0, 1], &mut out), Written::Record { length: 21 });
+    assert_eq!(out, [2, 2, 3, 2, 1, 0, 6, 1, 1, 7, 6, 0, 1, 3, 2, 0, 1, 0x0c, 0x53, 0xe4, 0x8b, 9]);
+}
+
+/// The visits are the only number of a record that needs more than one group.
+#[test]
+fn groups_of_the_visits() {
+    let rows = [(127, &[127][..]), (128, &[0x81, 0]), (16_383, &[0xff, 127]), (16_384, &[0x81, 0x80, 0]), (1_000_000, &[0xbd, 0x84, 64])];
+    for (visits, groups) in rows {
+        let order = Order { board: &[0, 1, 2, 3], budget: visits, ..STORED };
+        let record = records::record(&order, &[]);
+        assert_eq!(record[..9], [2, 2, 0, 1, 2, 3, 6, 1, 1]);
+        assert_eq!((&record[9..9 + groups.len()], record[9 + groups.len()]), (groups, 0));
+        assert_eq!(record.len(), 9 + groups.len() + 1 + 4);
+    }
+}
+
+#[test]
+fn refusals_of_the_record_writer() {
+    let plan = &[0, 1, 3, 2, 0, 1][..];
+    let rows = [
+        (Order { width: 5, ceiling: -1, ..STORED }, plan, 1, 0),
+        (Order { height: 3, ..STORED }, plan, 2, 0),
+        (Order { board: &[0, 1, 1, 4], ..STORED }, plan, 3, 3),
+        (Order { board: &[0, 1, 1, 3], ..STORED }, plan, 4, 2),
+        (Order { ceiling: -1, budget: 0, ..STORED }, plan, 5, 0),
+        (Order { budget: 0, q: 0, ..STORED }, plan, 6, 0),
+        (Order { budget: 1_000_001, ..STORED }, plan, 6, 0),
+        (Order { q: 2, ceiling: 5, ..STORED }, plan, 7, 0),
+        (Order { ceiling: 5, ..STORED }, &[9; 6], 21, 0),
+        (STORED, &[0, 4, 0], 13, 1),
+        (STORED, &[0, 0, 4], 14, 1),
+        (STORED, &[0, 1], 22, 0),
+        (STORED, plan, 8, 0),
+    ];
+    for (order, moves, number, place) in rows {
+        assert_eq!(records::write(&order, moves, &mut [0; 1]), Written::Refused { number, place }, "{number}");
+    }
 }

@@ -4,15 +4,17 @@
 --     fields, settled    the result is taken apart again; any two results, lent bytes included, that a contract allows are equal
 --     table, moves       low byte first; nothing that stood in them matters; which bytes are changed, and that all others stay
 --     A, B1, B2, B3      the customer's conditions, in their order
+--     E1                 the record of a plan: r % 256 is the number, r / 256 the record's length, or a refusal's cell or place
 -- Assumes nothing.
-use Prim.Native.Nat.{ℕ, _+_, _*_, _/_, _%_, _^_, _≤_, _<_}
+use Prim.Native.Nat.{ℕ, _+_, _*_, _/_, _%_, _^_, _≤_, _<_, min}
 use mathlib.Core.Path.{_≡_, refl, sym, ap, subst, _∙_}
 use mathlib.Core.Logic.{_↔_, _⊎_, ⊎-elim, inl, inr}
 use mathlib.Core.Bool.{Bool, true, false, cond}
 use mathlib.Core.List.{List, [], _∷_, _++_}
 use native.Mathlib.Omega.{arith}
-use lib.IntN.{negsuc}
+use lib.IntN.{pos, negsuc}
 use lib.ListN.{length, take, drop, replicate}
+use lib.Seq.{drop-at}
 use Rattle.board.specs.Lists.{Solves}
 use Rattle.board.specs.Tests.{FirstToHold, NoneHolds}
 use Rattle.search.specs.Run.{rowsFor}
@@ -39,12 +41,14 @@ use Rattle.records.specs.declared.Written.the-variants.{Record, Refused as Unwr
 use Rattle.records.specs.Answers.{answerNumber as writtenNumber, refusalNumber as unwrittenNumber, refusalPlace as unwrittenPlace}
 use Rattle.records.specs.Record.{recordOf}
 use Rattle.records.specs.Write.{Given, fieldsOf, writeTests, written}
+use Rattle.records.specs.Write.{shapeOf as shapeOfFields}
 use Rattle.records.proofs.Promises as wrote
 use Rattle.lowpengine.specs.Bytes.{AllBytes, numbers, bytesOf, oddByte, numbersUsed}
 use Rattle.lowpengine.specs.Packed.{packedPlan, farthest, playDetail, packedPlay, recordDetail, packedRecord}
 use Rattle.lowpengine.specs.Given.{inNumbers, PlanGiven, PlayGiven, RecordGiven}
 use Rattle.lowpengine.proofs.theory.Pairs.{count, back-to-bytes, cleared-bytes}
 use Rattle.lowpengine.proofs.theory.Used.{Used, used}
+use Rattle.lowpengine.proofs.theory.Sizes.{unwritten-some}
 use Rattle.lowpengine.proofs.theory.Packing.{Reads, answer-reads, play-number-read, play-detail-read, record-number-read, record-detail-read}
 
 -- ---- fields
@@ -281,3 +285,101 @@ module _ (c : Call) (bytes : AllBytes (c .table)) (r : ℕ) (moves′ table′ :
   pub odd-board-never : r % 256 ≡ 9 → (ds : List ℕ) → Solves (shapeOf c) (c .board) ds → ⊥
   unfolding answer
   odd-board-never e = plan.odd-board-never (inNumbers c) (odd-by-number answer (sym (fields .number-read) ∙ e))
+
+-- ---- E1: the record of a plan
+
+-- what a call of the record writer was refused by: the first condition that holds, its number, and its cell or place
+pub record UnwrittenBy (g : Given) (found : List ℕ) (k i : ℕ) : Type 0 where
+  pub why : PlanRefusal
+  pub first : FirstToHold (writeTests g found) why
+  pub number-is : unwrittenNumber why ≡ k
+  pub place-is : min (unwrittenPlace why) farthest ≡ i
+
+-- a record of L bytes was written: it is at the start of the output, and the bytes past it are as found; it has at most 149 bytes, and its
+-- list solves the board within the ceiling, which was given as a number of moves
+pub record RecordTold (g : Given) (found out : List ℕ) (L : ℕ) : Type 0 where
+  pub length-is : L ≡ length (recordOf (fieldsOf g))
+  pub most : L ≤ 149
+  pub front : take L out ≡ recordOf (fieldsOf g)
+  pub rest : drop L out ≡ drop L found
+  pub solves : Solves (shapeOfFields (fieldsOf g)) (g .board) (g .moves)
+  pub within : (ceiling : ℕ) → g .ceiling ≡ pos ceiling → length (g .moves) ≤ ceiling
+
+module _ (g : Given) (found : List ℕ) (r : ℕ) (out : List ℕ) (given : RecordGiven g found r out) where
+  -- by which case the writer answers, with r's number and detail
+  data Told : Type 0 where
+    record-of : {k : ℕ} → written g found .answer ≡ Record k → r % 256 ≡ 0 → r / 256 ≡ min k farthest → Told
+    refused-by : {why : PlanRefusal} → written g found .answer ≡ Unwritten why → r % 256 ≡ unwrittenNumber why
+        → r / 256 ≡ min (unwrittenPlace why) farthest → Told
+
+  told : Told
+  told = go (written g found .answer) refl
+    where
+      go : (a : Written) → written g found .answer ≡ a → Told
+      go (Record k) is =
+          let packs = given .result ∙ ap packedRecord is in
+          record-of is (ap (λ x. x % 256) packs ∙ record-number-read (Record k)) (ap (λ x. x / 256) packs ∙ record-detail-read (Record k))
+      go (Unwritten why) is =
+          let packs = given .result ∙ ap packedRecord is in
+          refused-by is (ap (λ x. x % 256) packs ∙ record-number-read (Unwritten why)) (ap (λ x. x / 256) packs ∙ record-detail-read (Unwritten why))
+
+  -- a refusal's number exactly when its condition is the first that holds, with its place
+  pub unwritten-exactly : (k : ℕ) → 1 ≤ k → (r % 256 ≡ k) ↔ UnwrittenBy g found k (r / 256)
+  unwritten-exactly k some-number = (λ e. go told e, λ it. gives it)
+    where
+      go : Told → r % 256 ≡ k → UnwrittenBy g found k (r / 256)
+      go (record-of is zero-number detail) e = absurd (omega arith)
+      go (refused-by {why} is number detail) e =
+          record {
+            why = why;
+            first = wrote.refused-exactly g found why .0 is;
+            number-is = sym number ∙ e;
+            place-is = sym detail;
+          }
+
+      gives : UnwrittenBy g found k (r / 256) → r % 256 ≡ k
+      gives it =
+          let is = given .result ∙ ap packedRecord (wrote.refused-exactly g found (it .why) .1 (it .first)) in
+          ap (λ x. x % 256) is ∙ record-number-read (Unwritten (it .why)) ∙ it .number-is
+
+  -- a refusal leaves every byte of the output as found
+  pub unwritten-leaves : 1 ≤ r % 256 → out ≡ found
+  unwritten-leaves some-number = go told
+    where
+      go : Told → out ≡ found
+      go (record-of is zero-number detail) = absurd (omega arith)
+      go (refused-by {why} is number detail) = given .out ∙ wrote.refusal-leaves g found why is
+
+  -- 0 exactly when no condition holds
+  pub written-exactly : (r % 256 ≡ 0) ↔ NoneHolds (writeTests g found)
+  written-exactly = (λ e. go told e, gives)
+    where
+      go : Told → r % 256 ≡ 0 → NoneHolds (writeTests g found)
+      go (record-of {k} is zero-number detail) e = wrote.else-written g found k .0 is .0
+      go (refused-by {why} is number detail) e = absurd (omega (arith, unwritten-some why))
+
+      gives : NoneHolds (writeTests g found) → r % 256 ≡ 0
+      gives none =
+          let is = given .result ∙ ap packedRecord (wrote.else-written g found (length (recordOf (fieldsOf g))) .1 (none, refl)) in
+          ap (λ x. x % 256) is ∙ record-number-read (Record (length (recordOf (fieldsOf g))))
+
+  -- and then the record is told
+  pub record-told : r % 256 ≡ 0 → RecordTold g found out (r / 256)
+  record-told e = go told
+    where
+      go : Told → RecordTold g found out (r / 256)
+      go (refused-by {why} is number detail) = absurd (omega (arith, unwritten-some why))
+      go (record-of {k} is zero-number detail) =
+          let few = wrote.record-at-most-149 g found k is in
+          let exact : r / 256 ≡ k = omega arith in
+          let long = wrote.else-written g found k .0 is .1 in
+          subst (RecordTold g found out) (sym exact)
+          (subst (λ o. RecordTold g found o k) (sym (given .out))
+          (record {
+            length-is = long;
+            most = few;
+            front = wrote.record-in-front g found k is;
+            rest = ap (drop k) (wrote.record-begins g found k is) ∙ drop-at (recordOf (fieldsOf g)) (drop k found) k (sym long);
+            solves = wrote.written-solves g found k is;
+            within = wrote.written-within g found k is;
+          }))

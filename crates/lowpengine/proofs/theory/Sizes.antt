@@ -46,6 +46,17 @@ pub play-detail : (a : Played) → playDetail a ≤ farthest
 play-detail (End goal) = goal-detail goal
 play-detail (Refused why) = omega arith
 
+fault-some : (f : Fault) → 1 ≤ faultNumber f
+fault-some BadShape = omega arith
+fault-some BadLength = omega arith
+fault-some (TooLarge i) = omega arith
+fault-some (Repeated i) = omega arith
+
+limit-some : (l : Limit) → 1 ≤ limitNumber l
+limit-some BadCeiling = omega arith
+limit-some BadBudget = omega arith
+limit-some BadWeight = omega arith
+
 limit-number : (l : Limit) → limitNumber l ≤ 7
 limit-number BadCeiling = omega arith
 limit-number BadBudget = omega arith
@@ -59,6 +70,16 @@ unwritten-number (NoSuch i) = omega arith
 unwritten-number (Off i) = omega arith
 unwritten-number NotSolved = omega arith
 unwritten-number NoRoom = omega arith
+
+-- and each refusal has a number
+pub unwritten-some : (why : PlanRefusal) → 1 ≤ unwrittenNumber why
+unwritten-some (BadBoard fault) = fault-some fault
+unwritten-some (Beyond limit) = limit-some limit
+unwritten-some TooLong = omega arith
+unwritten-some (NoSuch i) = omega arith
+unwritten-some (Off i) = omega arith
+unwritten-some NotSolved = omega arith
+unwritten-some NoRoom = omega arith
 
 pub record-number : (a : Written) → writtenNumber a ≤ 22
 record-number (Record length) = omega arith
