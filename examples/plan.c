@@ -1,5 +1,5 @@
 /*
- * Plans some boards and shows the cabinet after each slide, or says why there is no plan.
+ * Plans some boards and shows the cabinet after each slide and the record of the plan, or says why there is no plan.
  *
  *   cc -std=c11 -I include examples/plan.c target/staticlib/liblowpengine.a -o plan
  */
@@ -38,6 +38,8 @@ static const char *reason(enum lowpengine_result number) {
     case LOWPENGINE_MALFORMED_TEXT: return "no job line";
     case LOWPENGINE_BAD_MOVE: return "no such move";
     case LOWPENGINE_OFF_GRID: return "a move off the grid";
+    case LOWPENGINE_ABOVE_CEILING: return "more slides than the ceiling";
+    case LOWPENGINE_NOT_SOLVED: return "the slides do not lead to the goal";
     }
     return "an answer of a later version";
 }
@@ -53,6 +55,22 @@ static void show(const struct job *job, const uint8_t *board) {
         }
         putchar('\n');
     }
+}
+
+/* The plan as a record, in hex: what a controller would store or send. */
+static void store(const struct job *job, uint64_t answer, const uint8_t *moves) {
+    uint8_t record[LOWPENGINE_RECORD_BYTES];
+    size_t n = (size_t)job->width * job->height;
+    uint64_t stored = lowpengine_write_record(job->width, job->height, job->board, n, job->ceiling, 1, 1, lowpengine_visits(answer),
+                                              moves, lowpengine_length(answer), record, sizeof record);
+    if (lowpengine_number(stored) != LOWPENGINE_DONE) {
+        printf("not stored: %s\n", reason(lowpengine_number(stored)));
+        return;
+    }
+    printf("a record of %u bytes:", (unsigned)lowpengine_record_length(stored));
+    for (uint32_t i = 0; i < lowpengine_record_length(stored); i++)
+        printf(" %02x", (unsigned)record[i]);
+    putchar('\n');
 }
 
 static void plan(const struct job *job) {
@@ -80,6 +98,8 @@ static void plan(const struct job *job) {
         printf("%c%s\n", "ULRD"[moves[slide - 1]], lowpengine_is_goal(played) ? ", the goal" : "");
         show(job, board);
     }
+    if (number == LOWPENGINE_DONE)
+        store(job, answer, moves);
 }
 
 int main(void) {

@@ -40,6 +40,26 @@ static const char *play_case(uint64_t answer) {
     }
 }
 
+/* Of the record writer. */
+static const char *record_case(uint64_t answer) {
+    switch (lowpengine_number(answer)) {
+    case LOWPENGINE_DONE: return lowpengine_record_length(answer) == LOWPENGINE_RECORD_BYTES ? "longest record" : "record";
+    case LOWPENGINE_BAD_SHAPE: return "shape";
+    case LOWPENGINE_BAD_LENGTH: return "length";
+    case LOWPENGINE_BAD_VALUE: return "value";
+    case LOWPENGINE_REPEATED_VALUE: return "repeated";
+    case LOWPENGINE_BAD_CEILING: return "ceiling";
+    case LOWPENGINE_BAD_BUDGET: return "visits";
+    case LOWPENGINE_BAD_WEIGHT: return "weight";
+    case LOWPENGINE_SHORT_BUFFER: return "short";
+    case LOWPENGINE_BAD_MOVE: return lowpengine_place(answer) == 1 ? "bad move" : "bad move at another place";
+    case LOWPENGINE_OFF_GRID: return lowpengine_place(answer) == 1 ? "off the grid" : "off the grid at another place";
+    case LOWPENGINE_ABOVE_CEILING: return "above the ceiling";
+    case LOWPENGINE_NOT_SOLVED: return "not solved";
+    default: return "no answer of the record writer";
+    }
+}
+
 /* Of any entry, without a default: the compiler asks for every name that the header has. */
 static int number_of(uint64_t answer) {
     switch (lowpengine_number(answer)) {
@@ -58,6 +78,8 @@ static int number_of(uint64_t answer) {
     case LOWPENGINE_MALFORMED_TEXT: return 12;
     case LOWPENGINE_BAD_MOVE: return 13;
     case LOWPENGINE_OFF_GRID: return 14;
+    case LOWPENGINE_ABOVE_CEILING: return 21;
+    case LOWPENGINE_NOT_SOLVED: return 22;
     }
     return -1;
 }
@@ -90,6 +112,28 @@ static void play(uint32_t width, size_t len, uint8_t last, uint8_t move, size_t 
     expect(play_case(answer), wanted, number_of(answer), number);
 }
 
+/* The board 1 3 2 0 and two moves, up and left unless the second is another. A record of it has 17 bytes. */
+static void record(uint32_t width, size_t len, uint8_t last, int32_t ceiling, uint32_t visits, uint32_t p, uint8_t second,
+                   size_t room, const char *wanted, int number) {
+    uint8_t out[LOWPENGINE_RECORD_BYTES], board[] = {1, 3, 2, 0, 0}, moves[] = {LOWPENGINE_UP, LOWPENGINE_LEFT};
+    board[3] = last;
+    moves[1] = second;
+    uint64_t answer = lowpengine_write_record(width, 2, board, len, ceiling, p, 1, visits, moves, sizeof moves, out, room);
+    expect(record_case(answer), wanted, number_of(answer), number);
+}
+
+/* Sixteen cells, as many moves as there may be, and visits of three groups. */
+static void longest(size_t room, const char *wanted, int number) {
+    uint8_t out[LOWPENGINE_RECORD_BYTES], board[LOWPENGINE_CELLS], moves[LOWPENGINE_MOVES];
+    for (uint8_t i = 0; i < LOWPENGINE_CELLS; i++)
+        board[i] = i;
+    for (size_t i = 0; i < LOWPENGINE_MOVES; i++)
+        moves[i] = i % 2 == 0 ? LOWPENGINE_RIGHT : LOWPENGINE_LEFT;
+    uint64_t answer = lowpengine_write_record(4, 4, board, sizeof board, LOWPENGINE_MOVES, 64, 64, 1000000, moves, sizeof moves,
+                                              out, room);
+    expect(record_case(answer), wanted, number_of(answer), number);
+}
+
 int main(void) {
     plan(2, 4, 0, 6, 7, 1, 120, "plan", 0);
     plan(5, 4, 0, 6, 7, 1, 120, "shape", 1);
@@ -117,6 +161,22 @@ int main(void) {
     play(2, 4, 3, LOWPENGINE_LEFT, 3, "short", 8);
     play(2, 4, 3, 4, 4, "bad move", 13);
     play(2, 4, 3, LOWPENGINE_UP, 4, "off the grid", 14);
+
+    record(2, 4, 0, 2, 3, 1, LOWPENGINE_LEFT, 17, "record", 0);
+    record(1, 4, 0, 2, 3, 1, LOWPENGINE_LEFT, 17, "shape", 1);
+    record(2, 5, 0, 2, 3, 1, LOWPENGINE_LEFT, 17, "length", 2);
+    record(2, 4, 4, 2, 3, 1, LOWPENGINE_LEFT, 17, "value", 3);
+    record(2, 4, 3, 2, 3, 1, LOWPENGINE_LEFT, 17, "repeated", 4);
+    record(2, 4, 0, 121, 3, 1, LOWPENGINE_LEFT, 17, "ceiling", 5);
+    record(2, 4, 0, 2, 1000001, 1, LOWPENGINE_LEFT, 17, "visits", 6);
+    record(2, 4, 0, 2, 3, 0, LOWPENGINE_LEFT, 17, "weight", 7);
+    record(2, 4, 0, 2, 3, 1, LOWPENGINE_LEFT, 16, "short", 8);
+    record(2, 4, 0, 2, 3, 1, 4, 17, "bad move", 13);
+    record(2, 4, 0, 2, 3, 1, LOWPENGINE_UP, 17, "off the grid", 14);
+    record(2, 4, 0, 1, 3, 1, LOWPENGINE_LEFT, 17, "above the ceiling", 21);
+    record(2, 4, 0, 2, 3, 1, LOWPENGINE_DOWN, 17, "not solved", 22);
+    longest(LOWPENGINE_RECORD_BYTES, "longest record", 0);
+    longest(LOWPENGINE_RECORD_BYTES - 1, "short", 8);
     printf("%d calls, each to the case of its number\n", cases - wrong);
     return wrong != 0;
 }

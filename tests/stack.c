@@ -1,9 +1,10 @@
 /*
  * Measures the stack that a call takes. A function with a large array paints the stack below this program's frame and returns;
  * the call is made from the same place, and what is no longer paint was used. Plans run at ceiling 120 and at weights up to 64,
- * since a large weight takes the search down to the last depth at once; plays run lists of 10 to 100,000 moves.
+ * since a large weight takes the search down to the last depth at once; plays run lists of 10 to 100,000 moves; the record is
+ * the longest there is.
  *
- * It prints the most bytes of both, and ends with status 1 if the 64 KiB that docs/C-INTERFACE.md promises are not enough, if a
+ * It prints the most bytes of each, and ends with status 1 if the 64 KiB that docs/C-INTERFACE.md promises are not enough, if a
  * play's stack grows with its list, or if what was measured is not what is meant: plans that take no more at ceiling 120 than at
  * 119, so did not go down to the last depth, or a list that was refused.
  */
@@ -12,19 +13,23 @@
 
 enum { ROOM = 1 << 18, PAINT = 0xa5, LONG = 100000, ENOUGH = 1 << 16 };
 
-static uint8_t list[LONG], moves[LOWPENGINE_MOVES], table[LOWPENGINE_TABLE_BYTES], out[LOWPENGINE_CELLS];
+static uint8_t list[LONG], moves[LOWPENGINE_MOVES], table[LOWPENGINE_TABLE_BYTES], out[LOWPENGINE_RECORD_BYTES];
 
 struct call {
     uint32_t width, height, p, q;
     uint8_t board[LOWPENGINE_CELLS];
     int32_t ceiling;
     size_t played; /* moves of the list to play; 0 for a plan */
+    size_t stored; /* moves of the list to write a record of; 0 for none */
 };
 
 static uint64_t answered(const struct call *c) {
     size_t n = (size_t)c->width * c->height;
     if (c->played > 0)
         return lowpengine_play(c->width, c->height, c->board, n, list, c->played, out, sizeof out);
+    if (c->stored > 0)
+        return lowpengine_write_record(c->width, c->height, c->board, n, c->ceiling, c->p, c->q, 1000000, list, c->stored, out,
+                                       sizeof out);
     return lowpengine_plan(c->width, c->height, c->board, n, c->ceiling, 20000, c->p, c->q, moves, sizeof moves, table,
                            sizeof table);
 }
@@ -57,7 +62,7 @@ static size_t used(const struct call *c) {
 
 /* The goal turned round; where that can't be brought to the goal, with two trays exchanged. */
 static struct call far_board(uint32_t width, uint32_t height, uint32_t p, uint32_t q) {
-    struct call c = {width, height, p, q, {0}, LOWPENGINE_MOVES, 0};
+    struct call c = {width, height, p, q, {0}, LOWPENGINE_MOVES, 0, 0};
     uint32_t n = width * height;
     for (uint32_t i = 0; i < n; i++)
         c.board[i] = (uint8_t)(n - 1 - i);
@@ -95,7 +100,16 @@ int main(void) {
         grows |= play > 0 && bytes != play;
         play = bytes > play ? bytes : play;
     }
-    printf("stack of a plan %u bytes, %u of them for the last depth; of a play %u bytes\n", (unsigned)plan, (unsigned)(plan - less),
-           (unsigned)play);
-    return plan > ENOUGH || play > ENOUGH || grows || refused || plan <= less;
+    /* the goal, down and up again as often as a list may */
+    for (size_t i = 0; i < LONG; i++)
+        list[i] = i % 2 == 0 ? LOWPENGINE_DOWN : LOWPENGINE_UP;
+    for (uint8_t i = 0; i < LOWPENGINE_CELLS; i++)
+        c.board[i] = i;
+    c.played = 0;
+    c.stored = LOWPENGINE_MOVES;
+    size_t record = used(&c);
+    refused |= lowpengine_record_length(answered(&c)) != LOWPENGINE_RECORD_BYTES;
+    printf("stack of a plan %u bytes, %u of them for the last depth; of a play %u bytes; of a record %u bytes\n", (unsigned)plan,
+           (unsigned)(plan - less), (unsigned)play, (unsigned)record);
+    return plan > ENOUGH || play > ENOUGH || record > ENOUGH || grows || refused || plan <= less;
 }
