@@ -39,7 +39,8 @@ fn planned(checker: &mut Checker, random: &Random, task: usize, rounds: usize) {
         let steps = random.below(40);
         let board = random.walked(shape, steps);
         let ceiling = random.pick(&[120, 119, 40 + random.below(60) as i32]);
-        calls.push(boards::plan_of(random, &boards::order(shape, &board.cells[..shape.cells()], ceiling, 20_000, random.pick(&WEIGHTS))));
+        let order = boards::order(shape, &board.cells[..shape.cells()], ceiling, 20_000, random.pick(&WEIGHTS));
+        calls.push(boards::plan_of(random, &order));
     }
     for (answer, call) in checker.ask("records: the plans", calls) {
         if answer & 0xff != 0 {
@@ -76,7 +77,8 @@ fn listed(checker: &mut Checker, random: &Random, shape: Shape) {
     let goal = shape.goal();
     let round: Vec<u8> = (0..60).flat_map(|_| random.pick(&[[2, 1], [3, 0]])).collect();
     let order = boards::order(shape, &goal.cells[..shape.cells()], 120, visits, (64, 64));
-    for (order, moves) in [(order, &round[..]), (order, &round[..119]), (Order { ceiling: 119, ..order }, &round[..]), (order, &[])] {
+    let lower = Order { ceiling: 119, ..order };
+    for (order, moves) in [(order, &round[..]), (order, &round[..119]), (lower, &round[..]), (order, &[])] {
         outputs(checker, random, "records: there and back", &order, moves);
     }
 

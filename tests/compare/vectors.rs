@@ -105,7 +105,8 @@ fn records(checker: &mut Checker, random: &Random, folder: &Path) {
         let mut bytes = vec![0; out as usize];
         let answer = entries::write_record(&order, &moves, &mut bytes);
         let wrote = record_line(answer, &bytes);
-        checker.claim("vectors: records, second version", wrote == expected, || format!("{line}\n  {wrote}, not {expected}"));
+        let kind = "vectors: records, second version";
+        checker.claim(kind, wrote == expected, || format!("{line}\n  {wrote}, not {expected}"));
         calls.push(Call::write_record(random, &order, &moves, out as usize));
         wanted.push(expected);
     }

@@ -220,7 +220,13 @@ fn record_worked_by_hand() {
 /// The visits are the only number of a record that needs more than one group.
 #[test]
 fn groups_of_the_visits() {
-    let rows = [(127, &[127][..]), (128, &[0x81, 0]), (16_383, &[0xff, 127]), (16_384, &[0x81, 0x80, 0]), (1_000_000, &[0xbd, 0x84, 64])];
+    let rows = [
+        (127, &[127][..]),
+        (128, &[0x81, 0]),
+        (16_383, &[0xff, 127]),
+        (16_384, &[0x81, 0x80, 0]),
+        (1_000_000, &[0xbd, 0x84, 64]),
+    ];
     for (visits, groups) in rows {
         let order = Order { board: &[0, 1, 2, 3], budget: visits, ..STORED };
         let record = records::record(&order, &[]);
