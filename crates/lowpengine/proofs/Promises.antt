@@ -1,6 +1,7 @@
 -- What is promised of the entries, of any inputs, as a C programmer has them: of the result r and of the lent bytes. `PlanGiven c r moves′
 -- table′` is what lowpengine_plan gives for the inputs c, and with weight 1 over 1 what lowpengine_plan_short gives; `PlayGiven` is the
--- player's and `RecordGiven` the record writer's. Of a plan's result r % 256 is the number, r / 256 % 256 the cell, r / 65536 % 65536 the length and r / 2^32 the visits.
+-- player's and `RecordGiven` the record writer's. Of a plan's result r % 256 is the number, r / 256 % 256 the cell, r / 65536 % 65536 the
+-- length and r / 2^32 the visits.
 --     fields, settled    the result is taken apart again; any two results, lent bytes included, that a contract allows are equal
 --     table, moves       low byte first; nothing that stood in them matters; which bytes are changed, and that all others stay
 --     A, B1, B2, B3      the customer's conditions, in their order
@@ -49,7 +50,9 @@ use Rattle.lowpengine.specs.Given.{inNumbers, PlanGiven, PlayGiven, Reco
 use Rattle.lowpengine.proofs.theory.Pairs.{count, back-to-bytes, cleared-bytes}
 use Rattle.lowpengine.proofs.theory.Used.{Used, used}
 use Rattle.lowpengine.proofs.theory.Sizes.{unwritten-some}
-use Rattle.lowpengine.proofs.theory.Packing.{Reads, answer-reads, play-number-read, play-detail-read, record-number-read, record-detail-read}
+use Rattle.lowpengine.proofs.theory.Packing.{Reads, answer-reads, play-number-read, play-detail-read}
+use Rattle.lowpengine.proofs.theory.Packing.{record-number-read, record-detail-read}
+use Rattle.lowpengine.proofs.theory.Places.{record-place}
 
 -- ---- fields
 
@@ -293,7 +296,7 @@ pub record UnwrittenBy (g : Given) (found : List ℕ) (k i : ℕ) : Type 0 where
   pub why : PlanRefusal
   pub first : FirstToHold (writeTests g found) why
   pub number-is : unwrittenNumber why ≡ k
-  pub place-is : min (unwrittenPlace why) farthest ≡ i
+  pub place-is : unwrittenPlace why ≡ i
 
 -- a record of L bytes was written: it is at the start of the output, and the bytes past it are as found; it has at most 149 bytes, and its
 -- list solves the board within the ceiling, which was given as a number of moves
@@ -321,7 +324,8 @@ module _ (g : Given) (found : List ℕ) (r : ℕ) (out : List ℕ) (given : Reco
           record-of is (ap (λ x. x % 256) packs ∙ record-number-read (Record k)) (ap (λ x. x / 256) packs ∙ record-detail-read (Record k))
       go (Unwritten why) is =
           let packs = given .result ∙ ap packedRecord is in
-          refused-by is (ap (λ x. x % 256) packs ∙ record-number-read (Unwritten why)) (ap (λ x. x / 256) packs ∙ record-detail-read (Unwritten why))
+          refused-by is (ap (λ x. x % 256) packs ∙ record-number-read (Unwritten why))
+          (ap (λ x. x / 256) packs ∙ record-detail-read (Unwritten why))
 
   -- a refusal's number exactly when its condition is the first that holds, with its place
   pub unwritten-exactly : (k : ℕ) → 1 ≤ k → (r % 256 ≡ k) ↔ UnwrittenBy g found k (r / 256)
@@ -330,11 +334,12 @@ module _ (g : Given) (found : List ℕ) (r : ℕ) (out : List ℕ) (given : Reco
       go : Told → r % 256 ≡ k → UnwrittenBy g found k (r / 256)
       go (record-of is zero-number detail) e = absurd (omega arith)
       go (refused-by {why} is number detail) e =
+          let first = wrote.refused-exactly g found why .0 is in
           record {
             why = why;
-            first = wrote.refused-exactly g found why .0 is;
+            first = first;
             number-is = sym number ∙ e;
-            place-is = sym detail;
+            place-is = omega (arith, record-place g found why first);
           }
 
       gives : UnwrittenBy g found k (r / 256) → r % 256 ≡ k

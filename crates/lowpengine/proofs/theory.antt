@@ -2,4 +2,5 @@
 pub mod Pairs
 pub mod Used
 pub mod Sizes
+pub mod Places
 pub mod Packing

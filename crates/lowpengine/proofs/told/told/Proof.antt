@@ -1,4 +1,5 @@
--- `lowpengine::told::told` meets its contract: a place below the farthest is itself, and any other is told as the farthest. Assumes nothing.
+-- `lowpengine::told::told` meets its contract: a place below the farthest is itself, and any other is told as the farthest.
+-- Assumes nothing.
 use borrow.Author.Needs.{needs}
 use Rattle.lowpengine.proofs.told.told.Statement.{statement}
 use Rattle.lowpengine.proofs.told.told.Tie as tie
