@@ -1,5 +1,7 @@
 -- What the statements of the public functions settle: any two results that one of them allows are equal.
 --     one-position      `held::hold` and `moves::after` make the same position of the same board
+--     one-moved         `moves::after`
+--     one-changed       `moves::changed`
 --     one-table         `distance::distances`
 --     one-near-table    `distance::near_table`
 -- Every other public function's statement is an equation `r ≡ ..`, which allows one result by itself. Assumes nothing.
@@ -7,14 +9,20 @@ use Prim.Native.Nat.{ℕ, _+_, _*_, _/_, _%_, _<_}
 use mathlib.Core.Path.{_≡_, sym, ap, ap₂, _∙_}
 use mathlib.Core.List.{List, _++_}
 use native.Mathlib.Omega.{arith}
-use lib.ListN.{length, getD, take-append-drop}
+use lib.ListN.{length, getD, take, drop, take-append-drop}
+use lib.IntN.{ℤ, pos, _+ℤ_, natAbs}
 use lib.Seq.{ext-getD}
 use Rattle.board.specs.declared.Shape.{Shape}
 use Rattle.board.specs.declared.Position.{Position}
+use Rattle.board.specs.declared.Moved.{Moved}
 use Rattle.board.specs.Shape.{cells}
 use Rattle.board.specs.Board.{emptyCell}
 use Rattle.board.specs.Distance.{DistanceTable, NearTable}
+use Rattle.board.specs.Moves.{after}
+use Rattle.board.specs.Distance.{distance}
 use Rattle.board.specs.Held.{held, Taken}
+use Rattle.board.specs.Change.{MovedBy}
+use Rattle.board.proofs.theory.Changes.{one-change}
 
 position-is : (p q : Position) → p .cells ≡ q .cells → p .empty ≡ q .empty → p ≡ q
 position-is p q e f = λ i. record { cells = e i; empty = f i }
@@ -30,6 +38,17 @@ one-position s b p q t u = position-is p q whole (t .holds .empty ∙ ap emptyCe
         sym (take-append-drop (cells s) (p .cells))
         ∙ ap₂ _++_ same (t .holds .rest ∙ sym (u .holds .rest))
         ∙ take-append-drop (cells s) (q .cells)
+
+moved-is : (r r′ : Moved) → r .position ≡ r′ .position → r .change ≡ r′ .change → r ≡ r′
+moved-is r r′ e f = λ i. record { position = e i; change = f i }
+
+pub one-moved : (s : Shape) (b : List ℕ) (m : ℕ) (r r′ : Moved) → MovedBy s b m r → MovedBy s b m r′ → r ≡ r′
+one-moved s b m r r′ p q =
+    moved-is r r′ (one-position s (after s b m) (r .position) (r′ .position) (p .position) (q .position))
+    (one-change (distance s (after s b m)) (distance s b) (p .oneStep) (q .oneStep) (p .sum) (q .sum))
+
+pub one-changed : (h : ℕ) (z : ℤ) (r r′ : ℕ) → pos r ≡ pos h +ℤ z → pos r′ ≡ pos h +ℤ z → r ≡ r′
+one-changed h z r r′ p q = ap natAbs (p ∙ sym q)
 
 pub one-table : (t u : List ℕ) → DistanceTable t → DistanceTable u → t ≡ u
 one-table t u p q = ext-getD 0 t u (p .long ∙ sym (q .long)) entries

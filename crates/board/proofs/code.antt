@@ -1,6 +1,6 @@
 -- What the proofs of functions cite beside the theory: a loop that looks for a first number, a table's rule by one computed test, a
--- position that holds a board, and the distance as a loop sums it. Assumes nothing.
+-- position that holds a board, and a tray slid in it. Assumes nothing.
 pub mod FirstLoop
 pub mod Entries
 pub mod Holding
-pub mod Sums
+pub mod Sliding

@@ -10,6 +10,8 @@ pub mod OneApart
 pub mod Steps
 pub mod Moving
 pub mod Distances
+pub mod Changes
+pub mod Keeping
 pub mod Inversions
 pub mod Parities
 pub mod Faultless

@@ -9,3 +9,4 @@ pub mod Distance
 pub mod Parity
 pub mod Faults
 pub mod Held
+pub mod Change

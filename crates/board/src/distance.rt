@@ -34,16 +34,16 @@ pub fn near_table(shape: Shape) -> [u8; 256]
     near
 }
 
-// Rows plus columns from each tray to its goal cell; the empty cell adds nothing, and neither do the places past the board's cells,
-// which hold 0: so the count of turns is fixed, and the compiler lays them out in a row.
+// Rows plus columns from each tray to its goal cell, summed over the board. Whoever makes moves sums once and then keeps the distance.
 pub fn distance(shape: Shape, p: Position, near: &[u8; 256]) -> usize
     requires { ⌜ Holds shape p ⌝ }
     requires { ⌜ NearTable shape (now near) ⌝ }
     ensures { λ r. ⌜ r ≡ Distance·distance shape (held shape p) ⌝ }
 {
+    let n = cell_count(shape);
     let mut sum = 0;
     let mut i = 0;
-    while i < 16 {
+    while i < n {
         sum += number_of(near[16 * i + number_at(p, i)]);
         i += 1;
     }

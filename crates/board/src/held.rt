@@ -1,12 +1,12 @@
-// A tested board taken into a struct by value, and the goal test.
+// A tested board taken into a struct by value, and what stands in its cells.
 use crate::Position;
 use crate::Shape;
 use crate::faults::first_holding;
 ghost use mathlib.Core.Path.{_≡_};
 ghost use Rattle.board.specs.Shape.{cells, GoodShape};
 ghost use Prim.Native.Nat.{_<_};
-ghost use Rattle.board.specs.Board.{at, IsBoard, isGoal};
-ghost use Rattle.board.specs.Held.{held, Taken};
+ghost use Rattle.board.specs.Board.{at, IsBoard};
+ghost use Rattle.board.specs.Held.{Taken};
 
 // The board, held.
 pub fn hold(shape: Shape, board: &[u8]) -> Position
@@ -30,22 +30,6 @@ pub fn cell_count(shape: Shape) -> usize
     ensures { λ r. ⌜ r ≡ cells shape ⌝ }
 {
     shape.width * shape.height
-}
-
-// Yes exactly if the held board is the goal.
-pub fn is_goal(shape: Shape, p: Position) -> bool
-    requires { ⌜ GoodShape shape ⌝ }
-    ensures { λ r. ⌜ r ≡ isGoal shape (held shape p) ⌝ }
-{
-    let n = cell_count(shape);
-    let mut i = 0;
-    while i < n {
-        if number_at(p, i) != i {
-            return false;
-        }
-        i += 1;
-    }
-    true
 }
 
 // What stands in cell i, as a number that can be an index.

@@ -24,6 +24,12 @@ pub struct Position {
     pub empty: usize,
 }
 
+// A position after a legal move, and how the move changed the distance: -1 or +1.
+pub struct Moved {
+    pub position: Position,
+    pub change: i8,
+}
+
 // What is wrong with a board as given: the paper's 1 to 4, in its order.
 pub enum Fault {
     // 1: width or height is not 2 to 4

@@ -1,13 +1,18 @@
-// When a move is legal, and the board after it.
+// When a move is legal, the position after it, and how it changes the distance.
+use crate::Moved;
 use crate::Position;
 use crate::Shape;
+use crate::held::number_at;
 ghost use mathlib.Core.Path.{_≡_};
 ghost use mathlib.Core.Bool.{true};
 ghost use Prim.Native.Nat.{_<_, _*_, _%_};
+ghost use lib.IntN.{pos, _+ℤ_};
 ghost use Rattle.board.specs.Shape.{cells, Side, GoodShape};
 ghost use Rattle.board.specs.Moves.{staysOn, leadsTo};
-ghost use Rattle.board.specs.Moves.{legal as Moves·legal, after as Moves·after};
-ghost use Rattle.board.specs.Held.{held, Holds, Taken};
+ghost use Rattle.board.specs.Moves.{legal as Moves·legal};
+ghost use Rattle.board.specs.Distance.{NearTable};
+ghost use Rattle.board.specs.Held.{held, Holds, Slides, Slid};
+ghost use Rattle.board.specs.Change.{changeOf, MovedBy, LeadsOn};
 
 // The move is legal on the held board; a number above 3 is no move.
 pub fn legal(shape: Shape, p: Position, m: usize) -> bool
@@ -17,18 +22,52 @@ pub fn legal(shape: Shape, p: Position, m: usize) -> bool
     stays_on(shape, p.empty, m)
 }
 
-// The board after a legal move.
-pub fn after(shape: Shape, p: Position, m: usize) -> Position
+// The position after a legal move, and the change of its distance: that of the one tray that slides, by the shape's own table.
+pub fn after(shape: Shape, p: Position, m: usize, near: &[u8; 256]) -> Moved
     requires { ⌜ Holds shape p ⌝ }
     requires { ⌜ Moves·legal shape (held shape p) m ≡ true ⌝ }
-    ensures { λ r. ⌜ Taken shape (Moves·after shape (held shape p) m) r ⌝ }
+    requires { ⌜ NearTable shape (now near) ⌝ }
+    ensures { λ r. ⌜ MovedBy shape (held shape p) m r ⌝ }
 {
     let e = p.empty;
     let t = leads_to(shape, e, m);
+    let tray = number_at(p, t);
+    let change = change_of(near[16 * e + tray], near[16 * t + tray]);
+    let position = slid(p, t);
+    Moved { position, change }
+}
+
+// The distance after a move that changed it, from the one before.
+pub fn changed(h: usize, change: i8) -> usize
+    requires { ⌜ LeadsOn h change ⌝ }
+    ensures { λ r. ⌜ pos r ≡ pos h +ℤ change ⌝ }
+{
+    if change < 0 {
+        return h - 1;
+    }
+    h + 1
+}
+
+// The empty cell goes to cell t, and the tray that stood there to the empty cell.
+fn slid(p: Position, t: usize) -> Position
+    requires { ⌜ Slides p t ⌝ }
+    ensures { λ r. ⌜ Slid p t r ⌝ }
+{
+    let e = p.empty;
     let mut cells = p.cells;
     cells[e] = cells[t];
     cells[t] = 0;
     Position { cells, empty: t }
+}
+
+// -1 if the tray is nearer to its goal cell than it was, else +1.
+fn change_of(new: u8, old: u8) -> i8
+    ensures { λ r. ⌜ r ≡ changeOf new old ⌝ }
+{
+    if new < old {
+        return -1;
+    }
+    1
 }
 
 // The move from cell e stays on the grid. No division: this is in the search's inner loop.

@@ -1,6 +1,6 @@
 // Runs the board's functions on boards of each shape and prints a line for each: width, height, the fault's number and cell; and for
-// a sound board its distance, whether it is the goal, whether it is odd, its legal moves (U, L, R, D) and the board after the first
-// of them. The file stdout has what each line must be.
+// a sound board its distance, whether it is the goal (distance 0), whether it is odd, its legal moves (U, L, R, D) and the board after the
+// first of them. The file stdout has what each line must be.
 use board::Position;
 use board::Shape;
 use board::Tested;
@@ -11,7 +11,6 @@ use board::faults::number;
 use board::faults::tested;
 use board::held::cell_count;
 use board::held::hold;
-use board::held::is_goal;
 use board::held::number_at;
 use board::moves::after;
 use board::moves::legal;
@@ -19,6 +18,7 @@ use board::parity::is_odd;
 use libc::STDOUT_FILENO;
 ghost use Rattle.board.specs.Shape.{GoodShape};
 ghost use Rattle.board.specs.Board.{IsBoard};
+ghost use Rattle.board.specs.Distance.{NearTable};
 ghost use Rattle.board.specs.Held.{Holds};
 
 fn show(width: u32, height: u32, cells: &[u8]) {
@@ -43,11 +43,12 @@ fn show_sound(shape: Shape, cells: &[u8])
 {
     let p = hold(shape, cells);
     let near = near_table(shape);
-    print_field(distance(shape, p, &near));
-    print_yes(is_goal(shape, p));
+    let h = distance(shape, p, &near);
+    print_field(h);
+    print_yes(h == 0);
     print_yes(is_odd(shape, p));
     show_moves(shape, p);
-    show_after_first(shape, p);
+    show_after_first(shape, p, &near);
 }
 
 fn show_moves(shape: Shape, p: Position)
@@ -64,14 +65,15 @@ fn show_moves(shape: Shape, p: Position)
 }
 
 // The board after the first legal move.
-fn show_after_first(shape: Shape, p: Position)
+fn show_after_first(shape: Shape, p: Position, near: &[u8; 256])
     requires { ⌜ Holds shape p ⌝ }
+    requires { ⌜ NearTable shape (now near) ⌝ }
 {
     let mut m = 0;
     while m < 4 {
         if legal(shape, p, m) {
-            let next = after(shape, p, m);
-            print_cells(shape, next);
+            let next = after(shape, p, m, near);
+            print_cells(shape, next.position);
             return;
         }
         m += 1;

@@ -13,16 +13,19 @@ use board::Fault;
 use board::Position;
 use board::Shape;
 use board::Tested;
+use board::distance::distance;
+use board::distance::near_table;
 use board::faults::tested;
 use board::held::cell_count;
 use board::held::hold;
-use board::held::is_goal;
 ghost use mathlib.Core.Path.{_≡_};
 ghost use Prim.Native.Nat.{_≤_};
 ghost use lib.ListN.{length};
 ghost use Rattle.board.specs.Shape.{cells, GoodShape};
 ghost use Rattle.board.specs.Board.{IsBoard};
-ghost use Rattle.board.specs.Held.{held, Holds};
+ghost use Rattle.board.specs.Held.{held};
+ghost use Rattle.board.specs.Distance.{NearTable};
+ghost use Rattle.board.specs.Change.{Kept};
 ghost use Rattle.player.specs.Play.{PlayedAs, PlayedOn, comesTo};
 
 // Why a list is not played: the paper's numbers, in its order.
@@ -55,7 +58,7 @@ pub fn play(width: u32, height: u32, board: &[u8], moves: &[u8], out: &mut [u8])
     }
 }
 
-// After tests 1 to 4: test 8, and then the list.
+// After tests 1 to 4: test 8, and then the list. The first board is summed here, and its distance is kept from then on.
 fn play_sound(shape: Shape, board: &[u8], moves: &[u8], out: &mut [u8]) -> Played
     requires { ⌜ GoodShape shape ⌝ }
     requires { ⌜ IsBoard shape (now board) ⌝ }
@@ -65,32 +68,42 @@ fn play_sound(shape: Shape, board: &[u8], moves: &[u8], out: &mut [u8]) -> Playe
         return Played::Refused(PlayRefusal::ShortOutput);
     }
     let start = hold(shape, board);
-    play_held(shape, start, moves, out)
+    let near = near_table(shape);
+    let h = distance(shape, start, &near);
+    play_held(shape, start, h, &near, moves, out)
 }
 
 // After test 8. The output is written once the whole list was found good.
-fn play_held(shape: Shape, start: Position, moves: &[u8], out: &mut [u8]) -> Played
-    requires { ⌜ Holds shape start ⌝ }
+fn play_held(
+    shape: Shape,
+    start: Position,
+    h: usize,
+    near: &[u8; 256],
+    moves: &[u8],
+    out: &mut [u8],
+) -> Played
+    requires { ⌜ Kept shape start h ⌝ }
+    requires { ⌜ NearTable shape (now near) ⌝ }
     requires { ⌜ cells shape ≤ length (now out) ⌝ }
     ensures { λ r. ⌜ PlayedOn shape (held shape start) (now (moves .entry)) (now (out .entry)) r (now (out .exit)) ⌝ }
 {
-    let ran = run(shape, start, moves);
+    let ran = run(shape, start, h, near, moves);
     let bad = ran.bad;
     let end = ran.end;
     if bad == moves.len() {
         put(shape, end, out);
     }
-    come_to(shape, end, bad, moves)
+    come_to(shape, end, ran.h, bad, moves)
 }
 
-// What a run comes to that ended at the place `bad`.
-fn come_to(shape: Shape, end: Position, bad: usize, moves: &[u8]) -> Played
-    requires { ⌜ GoodShape shape ⌝ }
+// What a run comes to that ended at the place `bad`: the end is the goal exactly if the distance that was kept is 0.
+fn come_to(shape: Shape, end: Position, h: usize, bad: usize, moves: &[u8]) -> Played
+    requires { ⌜ Kept shape end h ⌝ }
     ensures { λ r. ⌜ r ≡ comesTo shape (held shape end) (now (moves .entry)) bad ⌝ }
 {
     if bad < moves.len() {
         return Played::Refused(refused_move(moves[bad], bad));
     }
-    let goal = is_goal(shape, end);
+    let goal = h == 0;
     Played::End(goal)
 }

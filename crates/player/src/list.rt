@@ -1,9 +1,10 @@
-// The run of a move list: one pass, with the position held by value, to the first bad move or the end.
+// The run of a move list: one pass, with the position held by value and its distance kept, to the first bad move or the end.
 use crate::PlayRefusal;
 use board::Position;
 use board::Shape;
 use board::held::cell_count;
 use board::moves::after;
+use board::moves::changed;
 use board::moves::legal;
 use board::number_of;
 ghost use mathlib.Core.Path.{_≡_};
@@ -12,33 +13,41 @@ ghost use Prim.Native.Nat.{_≤_};
 ghost use lib.ListN.{length, drop};
 ghost use Rattle.board.specs.Shape.{cells};
 ghost use Rattle.board.specs.Held.{held, Holds};
+ghost use Rattle.board.specs.Distance.{NearTable};
+ghost use Rattle.board.specs.Change.{Kept};
 ghost use Rattle.player.specs.Play.{badMove};
 ghost use Rattle.player.specs.Run.{RanAs};
 
-// The place of the first bad move, the list's length where none is bad; and the position that the moves before it lead to.
+// The place of the first bad move, the list's length where none is bad; and the position that the moves before it lead to, with its
+// distance h.
 pub struct Ran {
     pub end: Position,
+    pub h: usize,
     pub bad: usize,
 }
 
-// Plays the moves up to the first bad one.
-pub fn run(shape: Shape, start: Position, moves: &[u8]) -> Ran
-    requires { ⌜ Holds shape start ⌝ }
+// Plays the moves up to the first bad one, from a position whose distance is h.
+pub fn run(shape: Shape, start: Position, h: usize, near: &[u8; 256], moves: &[u8]) -> Ran
+    requires { ⌜ Kept shape start h ⌝ }
+    requires { ⌜ NearTable shape (now near) ⌝ }
     ensures { λ r. ⌜ RanAs shape (held shape start) (now (moves .entry)) r ⌝ }
 {
     let mut p = start;
+    let mut h = h;
     let mut i = 0;
     while i < moves.len() {
         let next = i + 1;
         let m = number_of(moves[i]);
         if legal(shape, p, m) {
-            p = after(shape, p, m);
+            let moved = after(shape, p, m, near);
+            p = moved.position;
+            h = changed(h, moved.change);
         } else {
-            return Ran { end: p, bad: i };
+            return Ran { end: p, h, bad: i };
         }
         i = next;
     }
-    Ran { end: p, bad: i }
+    Ran { end: p, h, bad: i }
 }
 
 // Why a bad move is refused.

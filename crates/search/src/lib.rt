@@ -11,6 +11,7 @@ use crate::visits::static_value;
 use crate::visits::visit;
 use board::Position;
 use board::Shape;
+use board::distance::distance;
 use board::distance::near_table;
 ghost use mathlib.Core.Path.{_≡_};
 ghost use lib.ListN.{length, replicate};
@@ -59,15 +60,28 @@ pub fn run(job: Job, start: Position, budget: u32, moves: &mut [u8], table: &mut
     out
 }
 
-// The visit to the start, with F = f and an infinite bound.
+// The visit to the start, with F = f and an infinite bound. The one place of a search where a board is summed.
 fn from_start(job: Job, start: Position, budget: u32, moves: &mut [u8], table: &mut [u16]) -> Out
     requires { ⌜ (SmallJob job) × (Holds (job .shape) start) ⌝ }
     requires { ⌜ Room job (now table) (now moves) ⌝ }
     ensures { λ r. ⌜ Ended (ofJob job (held (job .shape) start) budget) (now (moves .entry)) r (now (moves .exit)) ⌝ }
 {
     let near = near_table(job.shape);
-    let f = static_value(job, start, 0, &near);
-    visit(job, start, 4, 0, f, INFINITY, budget, &near, table, moves)
+    let h = distance(job.shape, start, &near);
+    let f = static_value(job, h, 0);
+    visit(
+        job,
+        start,
+        h,
+        4,
+        0,
+        f,
+        INFINITY,
+        budget,
+        &near,
+        table,
+        moves,
+    )
 }
 
 fn clear(table: &mut [u16])

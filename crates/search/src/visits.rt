@@ -2,7 +2,7 @@
 // each time, so the deepest chain is fixed by the ceiling.
 //
 // The row of depth g is the four numbers of the table from 4g on. A visit at depth g changes no row below g, and writes moves only
-// where it finds the goal.
+// where it finds the goal. The distance h of a position is kept beside it: no board is summed here.
 use crate::Choice;
 use crate::Job;
 use crate::Out;
@@ -14,15 +14,15 @@ use crate::row::other;
 use crate::row::stops_at;
 use crate::row::takes_back;
 use board::Position;
-use board::distance::distance;
-use board::held::is_goal;
 use board::moves::after;
+use board::moves::changed;
 use board::moves::legal;
 ghost use mathlib.Core.Path.{_≡_};
 ghost use Prim.Native.Nat.{_+_, _*_, _-_, _≤_, _<_};
 ghost use lib.ListN.{length};
-ghost use Rattle.board.specs.Held.{held, Holds};
+ghost use Rattle.board.specs.Held.{held};
 ghost use Rattle.board.specs.Distance.{NearTable};
+ghost use Rattle.board.specs.Change.{Kept};
 ghost use Rattle.search.specs.Row.{best, second};
 ghost use Rattle.search.specs.Space.{boards};
 ghost use Rattle.search.specs.Search.{static, firstEntry, firstRow};
@@ -32,6 +32,7 @@ ghost use Rattle.search.specs.Run.{SmallJob, Room, rowAt, putRow, visite
 pub fn visit(
     job: Job,
     p: Position,
+    h: usize,
     last: usize,
     g: usize,
     stored: u16,
@@ -42,7 +43,7 @@ pub fn visit(
     moves: &mut [u8],
 ) -> Out
     requires { ⌜ SmallJob job ⌝ }
-    requires { ⌜ Holds (job .shape) p ⌝ }
+    requires { ⌜ Kept (job .shape) p h ⌝ }
     requires { ⌜ (last ≤ 4) × (g ≤ job .ceiling) ⌝ }
     requires { ⌜ NearTable (job .shape) (now near) ⌝ }
     requires { ⌜ Room job (now table) (now moves) ⌝ }
@@ -52,20 +53,21 @@ pub fn visit(
     if left == 0 {
         return Out::Spent;
     }
-    if is_goal(job.shape, p) {
+    if h == 0 {
         return Out::Found(g, left - 1);
     }
     if g == job.ceiling {
         return Out::Value(INFINITY, left - 1);
     }
-    first_row(job, p, last, g, stored, near, table);
-    work(job, p, g, bound, left - 1, near, table, moves)
+    first_row(job, p, h, last, g, stored, near, table);
+    work(job, p, h, g, bound, left - 1, near, table, moves)
 }
 
 // The work through the successors of the position at depth g, whose stored values are in the table.
 fn work(
     job: Job,
     p: Position,
+    h: usize,
     g: usize,
     bound: u16,
     left: u32,
@@ -74,7 +76,7 @@ fn work(
     moves: &mut [u8],
 ) -> Out
     requires { ⌜ SmallJob job ⌝ }
-    requires { ⌜ Holds (job .shape) p ⌝ }
+    requires { ⌜ Kept (job .shape) p h ⌝ }
     requires { ⌜ g < job .ceiling ⌝ }
     requires { ⌜ NearTable (job .shape) (now near) ⌝ }
     requires { ⌜ Room job (now table) (now moves) ⌝ }
@@ -91,8 +93,21 @@ fn work(
             return Out::Value(least, left);
         }
         let down = lesser(bound, row_second(table, g, m));
-        let next = after(job.shape, p, m);
-        match visit(job, next, m, g + 1, least, down, left, near, table, moves) {
+        let next = after(job.shape, p, m, near);
+        let next_h = changed(h, next.change);
+        match visit(
+            job,
+            next.position,
+            next_h,
+            m,
+            g + 1,
+            least,
+            down,
+            left,
+            near,
+            table,
+            moves,
+        ) {
             Out::Found(length, rest) => {
                 moves[g] = m as u8;
                 return Out::Found(length, rest);
@@ -135,6 +150,7 @@ fn row_second(table: &[u16], g: usize, m: usize) -> u16
 fn first_row(
     job: Job,
     p: Position,
+    h: usize,
     last: usize,
     g: usize,
     stored: u16,
@@ -142,25 +158,26 @@ fn first_row(
     table: &mut [u16],
 )
     requires { ⌜ SmallJob job ⌝ }
-    requires { ⌜ Holds (job .shape) p ⌝ }
+    requires { ⌜ Kept (job .shape) p h ⌝ }
     requires { ⌜ (last ≤ 4) × (g < job .ceiling) ⌝ }
     requires { ⌜ NearTable (job .shape) (now near) ⌝ }
     requires { ⌜ 4 * (g + 1) ≤ length (now table) ⌝ }
     ensures { λ _. ⌜ now (table .exit) ≡ putRow (now (table .entry)) g
         (firstRow (boards (job .shape)) (static (boards (job .shape)) (job .weight)) g (held (job .shape) p) last stored) ⌝ }
 {
-    let f = static_value(job, p, g, near);
+    let f = static_value(job, h, g);
     let at = 4 * g;
-    table[at] = first_entry(job, p, last, g, f, stored, 0, near);
-    table[at + 1] = first_entry(job, p, last, g, f, stored, 1, near);
-    table[at + 2] = first_entry(job, p, last, g, f, stored, 2, near);
-    table[at + 3] = first_entry(job, p, last, g, f, stored, 3, near);
+    table[at] = first_entry(job, p, h, last, g, f, stored, 0, near);
+    table[at + 1] = first_entry(job, p, h, last, g, f, stored, 1, near);
+    table[at + 2] = first_entry(job, p, h, last, g, f, stored, 2, near);
+    table[at + 3] = first_entry(job, p, h, last, g, f, stored, 3, near);
 }
 
 // The first stored value of a move: infinity where it makes no successor.
 fn first_entry(
     job: Job,
     p: Position,
+    h: usize,
     last: usize,
     g: usize,
     f: u16,
@@ -169,7 +186,7 @@ fn first_entry(
     near: &[u8; 256],
 ) -> u16
     requires { ⌜ SmallJob job ⌝ }
-    requires { ⌜ Holds (job .shape) p ⌝ }
+    requires { ⌜ Kept (job .shape) p h ⌝ }
     requires { ⌜ (last ≤ 4) × ((g < job .ceiling) × (m < 4)) ⌝ }
     requires { ⌜ f ≡ static (boards (job .shape)) (job .weight) g (held (job .shape) p) ⌝ }
     requires { ⌜ NearTable (job .shape) (now near) ⌝ }
@@ -180,20 +197,18 @@ fn first_entry(
         return INFINITY;
     }
     if legal(job.shape, p, m) {
-        let next = after(job.shape, p, m);
-        return first_stored(f, stored, static_value(job, next, g + 1, near));
+        let next = after(job.shape, p, m, near);
+        let own = static_value(job, changed(h, next.change), g + 1);
+        return first_stored(f, stored, own);
     }
     INFINITY
 }
 
 // f = q × g + p × h.
-pub fn static_value(job: Job, p: Position, g: usize, near: &[u8; 256]) -> u16
+pub fn static_value(job: Job, h: usize, g: usize) -> u16
     requires { ⌜ SmallJob job ⌝ }
-    requires { ⌜ Holds (job .shape) p ⌝ }
-    requires { ⌜ g ≤ job .ceiling ⌝ }
-    requires { ⌜ NearTable (job .shape) (now near) ⌝ }
-    ensures { λ r. ⌜ r ≡ static (boards (job .shape)) (job .weight) g (held (job .shape) p) ⌝ }
+    requires { ⌜ (h ≤ 90) × (g ≤ job .ceiling) ⌝ }
+    ensures { λ r. ⌜ r ≡ job .weight .q * g + job .weight .p * h ⌝ }
 {
-    let h = distance(job.shape, p, near);
     (job.weight.q * g + job.weight.p * h) as u16
 }

@@ -119,7 +119,7 @@ distance-set s (x ∷ xs) i zero p v e h = let q : p ≡ i = omega arith in rw q
 distance-set s (x ∷ xs) i (suc k) p v e h = omega (arith, distance-set s xs (suc i) k p v (omega arith) (omega arith))
 
 -- a tray slides from cell t into cell e, which held 0: its way home from t is exchanged for that from e
-distance-swapped :
+pub distance-swapped :
     (s : Shape) (b : List ℕ) (e t : ℕ)
     → t ≢ e
     → e < length b

@@ -7,10 +7,10 @@ use Rattle.board_cases.proofs.show_after_first.Statement.{statement}
 use Rattle.board_cases.proofs.show_after_first.Tie as tie
 
 abbrev Inv-loop : tie.InvT-loop
-Inv-loop shape p m₀ m = m ≤ 4
+Inv-loop shape p near m₀ m = m ≤ 4
 
 abbrev μ-loop : tie.MeasureT-loop
-μ-loop shape p m₀ m = 4 - m
+μ-loop shape p near m₀ m = 4 - m
 
 loop-holds : tie.Need-loop-holds Inv-loop μ-loop
 loop-holds c = search needs
@@ -20,9 +20,8 @@ legal-requires c κs = search needs
 
 after-requires : tie.Need-after-requires Inv-loop μ-loop
 after-requires c κs =
-    let asked = c .before in
-    let start = asked .before .before .before in
-    (start .pre, sym (asked .legal .ensures) ∙ c .if1 .taken)
+    let start = c .before .before .before .before in
+    (start .pre .0, (sym (c .before .legal .ensures) ∙ c .if1 .taken, start .pre .1))
 
 print-cells-requires : tie.Need-print-cells-requires Inv-loop μ-loop
 print-cells-requires c κs = search needs

@@ -71,7 +71,7 @@ put-requires : tie.Need-put-requires
 put-requires c κs = search needs
 
 come-to-requires : tie.Need-come-to-requires
-come-to-requires c κs = search needs
+come-to-requires c κs = c .before .before .run .ensures .kept
 
 same-length : tie.Need-same-length
 same-length c = ⊎-elim (λ w. ap length (w .5) ∙ w .2 .kept .1 .1 .0) (λ w. ap length (w .1)) (c .before .if1 .came)
@@ -82,8 +82,8 @@ returns c =
     let start = ran .before .before .before in
     let runs = ran .run .ensures in
     ⊎-elim
-    (λ w. all-good _ _ _ _ _ _ _ runs (start .pre .1) (c .come-to .ensures) (w .0 .taken) (w .5 ∙ w .2 .ensures))
-    (λ w. one-bad _ _ _ _ _ _ _ runs (start .pre .1) (c .come-to .ensures) (w .0 .left) (w .1))
+    (λ w. all-good _ _ _ _ _ _ _ runs (start .pre .1 .1) (c .come-to .ensures) (w .0 .taken) (w .5 ∙ w .2 .ensures))
+    (λ w. one-bad _ _ _ _ _ _ _ runs (start .pre .1 .1) (c .come-to .ensures) (w .0 .left) (w .1))
     (c .before .if1 .came)
 
 pub play-held-spec : {M : Type 1} → statement M

@@ -1,4 +1,4 @@
--- `player::play_sound` meets its contract: test 8, and then what `play_held` says of the same board, held.
+-- `player::play_sound` meets its contract: test 8, and then what `play_held` says of the same board, held, with its sum kept.
 -- Assumes nothing.
 use Prim.Native.Nat.{ℕ, _<_}
 use mathlib.Core.Path.{refl}
@@ -27,16 +27,29 @@ returns c = short _ _ _ _ (rw (← (c .before .cell-count .ensures)) (c .if1 .ta
 hold-requires : tie.Need-hold-requires
 hold-requires c κs = search needs
 
+near-table-requires : tie.Need-near-table-requires
+near-table-requires c κs = search needs
+
+distance-requires : tie.Need-distance-requires
+distance-requires c κs = search needs
+
 play-held-requires : tie.Need-play-held-requires
-play-held-requires c κs = search needs
+play-held-requires c κs =
+    let summed = c .before .before in
+    let made = summed .before .before in
+    let tested = made .before .before in (
+      record { holds = made .before .hold .ensures .holds; full = summed .distance .ensures },
+      (made .near-table .ensures, rw (← (tested .before .cell-count .ensures)) (tested .if1 .left)),
+    )
 
 same-length : tie.Need-same-length
 same-length c = search needs
 
 returns-2 : tie.Need-returns-2
 returns-2 c =
-    let at-call = c .before .before in
-    rw (at-call .before .before .hold .ensures .same) at (at-call .play-held .ensures)
+    let called = c .before .before in
+    let held-at = called .before .before .before .before .before .before in
+    rw (held-at .hold .ensures .same) at (called .play-held .ensures)
 
 pub play-sound-spec : {M : Type 1} → statement M
 play-sound-spec =
@@ -45,6 +58,8 @@ play-sound-spec =
     cell-count-requires
     returns
     hold-requires
+    near-table-requires
+    distance-requires
     play-held-requires
     same-length
     returns-2)

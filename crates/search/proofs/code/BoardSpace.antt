@@ -1,6 +1,7 @@
 -- The boards of a good shape satisfy the laws of a space: the instance at which the theory of the search is read. Each law is one
--- of the board part's. First a test that passes, as a fact and as an equation. Assumes nothing.
-use Prim.Native.Nat.{ℕ, _+_, _≤_, _<_}
+-- of the board part's. First a test that passes, as a fact and as an equation; last the static value of a board whose distance is known.
+-- Assumes nothing.
+use Prim.Native.Nat.{ℕ, _+_, _*_, _≤_, _<_}
 use mathlib.Core.Path.{_≡_, refl, ap, sym, _∙_, subst}
 use mathlib.Core.Bool.{Bool, true, false}
 use mathlib.Core.List.{List}
@@ -12,9 +13,10 @@ use Rattle.board.specs.Shape.{GoodShape}
 use Rattle.board.specs.Board.{IsBoard, emptyCell, isGoal}
 use Rattle.board.specs.Moves.{legal}
 use Rattle.board.specs.Distance.{distance}
-use Rattle.board.proofs.Laws.{OneApart, leads-by-step, step-number, after-board, back-legal, back-after, move-distance}
-use Rattle.board.proofs.Laws.{goal-distance, isGoal-sound}
+use Rattle.board.proofs.Laws.{OneApart, leads-by-step, step-number, after-board, back-legal, back-after, move-distance, goal-distance, isGoal-sound}
+use Rattle.search.specs.declared.Weight.{Weight}
 use Rattle.search.specs.Space.{boards}
+use Rattle.search.specs.Search.{static}
 use Rattle.search.proofs.theory.Laws.{Laws}
 
 pub passed : (t : Bool) → T t → t ≡ true
@@ -46,3 +48,8 @@ module _ (s : Shape) (shape : GoodShape s) where
         closer = λ b m board allowed. nearer _ _ (move-distance s b shape board m allowed);
         nearGoal = at-the-goal;
       }
+
+-- f, by the distance
+pub valued : (s : Shape) (w : Weight) (g f h : ℕ) (b : List ℕ) → h ≡ distance s b → f ≡ w .q * g + w .p * h → f ≡ static (boards s) w g b
+unfolding static
+valued s w g f h b known is = is ∙ ap (λ (k : ℕ). w .q * g + w .p * k) known

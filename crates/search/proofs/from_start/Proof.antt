@@ -1,21 +1,42 @@
--- `search::from_start` meets its contract: it is the visit to the start with F = f and an infinite bound. Assumes nothing.
+-- `search::from_start` meets its contract: it is the visit to the start with F = f and an infinite bound, and with the start's own sum
+-- as its distance. Assumes nothing.
+use Prim.Native.Nat.{ℕ}
+use mathlib.Core.Path.{_≡_}
 use borrow.Author.Needs.{needs}
 use native.Mathlib.Omega.{arith}
+use Rattle.board.specs.declared.Shape.{Shape}
+use Rattle.board.specs.declared.Position.{Position}
+use Rattle.board.specs.Distance.{distance}
+use Rattle.board.specs.Held.{held, Holds}
+use Rattle.board.specs.Change.{Kept}
+use Rattle.board.proofs.Laws.{kept-most}
+use Rattle.search.proofs.code.BoardSpace.{valued}
 use Rattle.search.proofs.code.Whole.{started}
 use Rattle.search.proofs.from_start.Statement.{statement}
 use Rattle.search.proofs.from_start.Tie as tie
 
+-- the start's sum is kept
+kept : (s : Shape) (p : Position) (h : ℕ) → Holds s p → h ≡ distance s (held s p) → Kept s p h
+kept s p h holds is = record { holds = holds; full = is }
+
 near-table-requires : tie.Need-near-table-requires
 near-table-requires c κs = search needs
 
+distance-requires : tie.Need-distance-requires
+distance-requires c κs = search needs
+
 static-value-requires : tie.Need-static-value-requires
-static-value-requires c κs = search needs
+static-value-requires c κs =
+    let start = c .before .before .before .before .before in
+    (start .pre .0 .0, (kept-most _ _ _ (kept _ _ _ (start .pre .0 .1) (c .distance .ensures)), omega arith))
 
 visit-requires : tie.Need-visit-requires
 visit-requires c κs =
-    let near = c .before .before .before .before .before in
-    let entry = near .before .before .before in
-    (entry .pre .0 .0, (entry .pre .0 .1, (omega arith, (near .near-table .ensures, entry .pre .1))))
+    let summed = c .before .before .before .before in
+    let made = summed .before .before in
+    let start = made .before .before .before in
+    let first = kept _ _ _ (start .pre .0 .1) (summed .distance .ensures) in
+    (start .pre .0 .0, (first, (omega arith, (made .near-table .ensures, start .pre .1))))
 
 same-length : tie.Need-same-length
 same-length c = search needs
@@ -25,15 +46,17 @@ same-length-2 c = search needs
 
 returns : tie.Need-returns
 returns c =
-    let visited = c .before .before .before .before in
-    let valued = visited .before .before .before .before in
-    started _ _ _ _ _ _ _ _ _ (valued .static-value .ensures) (visited .visit .ensures)
+    let called = c .before .before .before .before in
+    let stored = called .before .before .before .before in
+    let f = valued _ _ _ _ _ _ (stored .before .distance .ensures) (stored .static-value .ensures) in
+    started _ _ _ _ _ _ _ _ _ f (called .visit .ensures)
 
 pub from-start-spec : {M : Type 1} → statement M
 from-start-spec =
     tie.close
     (tie.spec
     near-table-requires
+    distance-requires
     static-value-requires
     visit-requires
     same-length

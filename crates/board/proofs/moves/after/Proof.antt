@@ -1,102 +1,106 @@
--- `board::moves::after` meets its contract: the two stores are the slide that the definition makes, and what a legal move makes of a
--- board is a board, whose empty cell is the one that the move led to. Assumes nothing.
-use Prim.Native.Nat.{ℕ, _<_}
-use mathlib.Core.Path.{_≡_, subst, sym, ap, _∙_}
-use mathlib.Core.Bool.{Bool, true}
+-- `board::moves::after` meets its contract: the slide holds the board after the move, and the table's two entries for the tray that
+-- slides tell the change. Assumes nothing.
+use Prim.Native.Nat.{ℕ, _+_, _*_}
+use mathlib.Core.Path.{_≡_, ap, _∙_}
 use mathlib.Core.List.{List}
 use native.Mathlib.Omega.{arith}
-use lib.Dec.{T}
-use lib.ListN.{take, set, getD}
-use lib.Seq.{take-set-lt, drop-set-lt, getD-take}
-use Rattle.board.specs.declared.Shape.{Shape}
-use Rattle.board.specs.declared.Position.{Position}
-use Rattle.board.specs.Shape.{cells}
-use Rattle.board.specs.Board.{IsBoard, emptyCell}
-use Rattle.board.specs.Moves.{staysOn, leadsTo, legal, slide, after}
-use Rattle.board.specs.Held.{held, Holds, Taken}
-use Rattle.board.proofs.theory.Sides.{cells-within}
-use Rattle.board.proofs.theory.Moving.{target, target-inside, after-board, after-empty}
-use Rattle.board.proofs.code.Holding.{empty-below}
+use lib.IntN.{ℤ}
+use lib.ListN.{getD}
+use borrow.Author.Needs.{needs}
+use Rattle.board.specs.Change.{changeOf}
+use Rattle.board.proofs.theory.Changes.{readBack, read-back, change-one-step}
+use Rattle.board.proofs.code.Sliding.{empty-below, stays, target-below, may-slide, entries-inside, entries-tell, moved-by}
 use Rattle.board.proofs.moves.after.Statement.{statement}
 use Rattle.board.proofs.moves.after.Tie as tie
 
-passes : {t : Bool} → t ≡ true → T t
-passes e = subst T (sym e) tt
-
--- two stores in the cells are the slide in the board
-slides : (n : ℕ) (l : List ℕ) (e t : ℕ) → e < n → t < n → take n (set (set l e (getD l t 0)) t 0) ≡ slide (take n l) e t
-unfolding slide
-slides n l e t below-e below-t =
-    take-set-lt n (set l e (getD l t 0)) t 0 below-t
-    ∙ ap (λ (x : List ℕ). set x t 0)
-    (take-set-lt n l e (getD l t 0) below-e ∙ ap (λ (v : ℕ). set (take n l) e v) (sym (getD-take n l t 0 below-t)))
-
-module _ (s : Shape) (p : Position) (m : ℕ) (holds : Holds s p) (allowed : legal s (held s p) m ≡ true) where
-  stays : staysOn s (p .empty) m ≡ true
-  unfolding legal
-  stays = ap (λ (e : ℕ). staysOn s e m) (holds .empty) ∙ allowed
-
-  target-is : (t : ℕ) → t ≡ leadsTo s (p .empty) m → t ≡ target s (held s p) m
-  target-is t is = is ∙ ap (λ (e : ℕ). leadsTo s e m) (holds .empty)
-
-  target-below : (t : ℕ) → t ≡ leadsTo s (p .empty) m → t < cells s
-  target-below t is =
-      subst (λ (k : ℕ). k < cells s) (sym (target-is t is)) (target-inside s (held s p) m (holds .shape) (holds .board) (passes allowed))
-
-  -- the sixteen cells after the two stores
-  abbrev stored : ℕ → List ℕ
-  stored t = set (set (p .cells) (p .empty) (getD (p .cells) t 0)) t 0
-
-  made : (t : ℕ) → t ≡ leadsTo s (p .empty) m → Taken s (after s (held s p) m) (record { cells = stored t; empty = t })
-  unfolding after
-  made t is =
-      record {
-        same = same;
-        holds =
-            record {
-              shape = holds .shape;
-              board = subst (IsBoard s) (sym same) (after-board s (held s p) m (holds .shape) (holds .board) (passes allowed));
-              empty =
-                  target-is t is
-                  ∙ sym (after-empty s (held s p) m (holds .shape) (holds .board) (passes allowed))
-                  ∙ ap emptyCell (sym same);
-              rest =
-                  drop-set-lt (cells s) (set (p .cells) (p .empty) (getD (p .cells) t 0)) t 0 (target-below t is)
-                  ∙ drop-set-lt (cells s) (p .cells) (p .empty) (getD (p .cells) t 0) (empty-below s p holds)
-                  ∙ holds .rest;
-            };
-      }
-    where
-      same : take (cells s) (stored t) ≡ after s (held s p) m
-      same =
-          slides (cells s) (p .cells) (p .empty) t (empty-below s p holds) (target-below t is)
-          ∙ ap (λ (e : ℕ). slide (held s p) e t) (holds .empty)
-          ∙ ap (λ (k : ℕ). slide (held s p) (emptyCell (held s p)) k) (target-is t is)
+-- the change of the tray x from cell t to cell e, as a signed byte
+told : (near : List ℕ) (e t x : ℕ) (z : ℤ) → z ≡ changeOf (getD near (16 * e + x) 0) (getD near (16 * t + x) 0)
+    → readBack z ≡ changeOf (getD near (16 * e + x) 0) (getD near (16 * t + x) 0)
+told near e t x z is = ap readBack is ∙ read-back (change-one-step (getD near (16 * e + x) 0) (getD near (16 * t + x) 0))
 
 leads-to-requires : tie.Need-leads-to-requires
 leads-to-requires c κs =
-    let held-by = c .pre .0 in
-    (held-by .shape, (empty-below _ _ held-by, stays _ _ _ held-by (c .pre .1)))
+    let holds = c .pre .0 in
+    (holds .shape, (empty-below _ _ holds, stays _ _ holds _ (c .pre .1 .0)))
 
-array-read-cells : tie.Need-array-read-cells
-array-read-cells c =
-    let start = c .before .before in
-    omega (arith, cells-within (start .pre .0 .shape), target-below _ _ _ (start .pre .0) (start .pre .1) _ (c .before .leads-to .ensures))
+number-at-requires : tie.Need-number-at-requires
+number-at-requires c κs =
+    let pre = c .before .pre in
+    may-slide _ _ (pre .0) _ _ (pre .1 .0) (c .leads-to .ensures) .target
 
-array-write-cells : tie.Need-array-write-cells
-array-write-cells c =
-    let start = c .before .before in
-    omega (arith, cells-within (start .pre .0 .shape), empty-below _ _ (start .pre .0))
+mul-change-of : tie.Need-mul-change-of
+mul-change-of c =
+    let led = c .before in
+    let pre = led .before .pre in
+    let inside = entries-inside _ _ (pre .0) _ _ (pre .1 .0) (led .leads-to .ensures) _ (c .number-at .ensures) in
+    omega (arith, inside .0, inside .1)
 
-array-write-cells-2 : tie.Need-array-write-cells-2
-array-write-cells-2 c =
-    let start = c .before .before in
-    omega (arith, cells-within (start .pre .0 .shape), target-below _ _ _ (start .pre .0) (start .pre .1) _ (c .before .leads-to .ensures))
+add-change-of : tie.Need-add-change-of
+add-change-of c =
+    let led = c .before in
+    let pre = led .before .pre in
+    let inside = entries-inside _ _ (pre .0) _ _ (pre .1 .0) (led .leads-to .ensures) _ (c .number-at .ensures) in
+    omega (arith, inside .0, inside .1)
+
+element-copy-out-change-of : tie.Need-element-copy-out-change-of
+element-copy-out-change-of c =
+    let led = c .before in
+    let pre = led .before .pre in
+    let inside = entries-inside _ _ (pre .0) _ _ (pre .1 .0) (led .leads-to .ensures) _ (c .number-at .ensures) in
+    omega (arith, inside .0, inside .1)
+
+mul-change-of-2 : tie.Need-mul-change-of-2
+mul-change-of-2 c =
+    let led = c .before .before in
+    let pre = led .before .pre in
+    let inside = entries-inside _ _ (pre .0) _ _ (pre .1 .0) (led .leads-to .ensures) _ (c .before .number-at .ensures) in
+    omega (arith, inside .0, inside .1)
+
+add-change-of-2 : tie.Need-add-change-of-2
+add-change-of-2 c =
+    let led = c .before .before in
+    let pre = led .before .pre in
+    let inside = entries-inside _ _ (pre .0) _ _ (pre .1 .0) (led .leads-to .ensures) _ (c .before .number-at .ensures) in
+    omega (arith, inside .0, inside .1)
+
+element-copy-out-change-of-2 : tie.Need-element-copy-out-change-of-2
+element-copy-out-change-of-2 c =
+    let led = c .before .before in
+    let pre = led .before .pre in
+    let inside = entries-inside _ _ (pre .0) _ _ (pre .1 .0) (led .leads-to .ensures) _ (c .before .number-at .ensures) in
+    omega (arith, inside .0, inside .1)
+
+change-of-requires : tie.Need-change-of-requires
+change-of-requires c κs = search needs
+
+slid-requires : tie.Need-slid-requires
+slid-requires c κs =
+    let led = c .before .before .before .before in
+    let pre = led .before .pre in
+    may-slide _ _ (pre .0) _ _ (pre .1 .0) (led .leads-to .ensures)
 
 returns : tie.Need-returns
 returns c =
-    let start = c .before .before in
-    made _ _ _ (start .pre .0) (start .pre .1) _ (c .before .leads-to .ensures)
+    let looked = c .before .before .before .before in
+    let led = looked .before in
+    let a = led .before .args in
+    let pre = led .before .pre in
+    moved-by _ _ (pre .0) _ _ (pre .1 .0) (led .leads-to .ensures) _ (looked .number-at .ensures) _ (pre .1 .1) _ _ (c .slid .ensures)
+    (told (a .near .now) (a .p .empty) (led .leads-to .result) (looked .number-at .result) _ (c .before .change-of .ensures)
+    ∙ entries-tell _ _ (pre .0) _ _ (pre .1 .0) (led .leads-to .ensures) _ (looked .number-at .ensures) _ (pre .1 .1))
 
 pub after-spec : {M : Type 1} → statement M
-after-spec = tie.close (tie.spec leads-to-requires array-read-cells array-write-cells array-write-cells-2 returns)
+after-spec =
+    tie.close
+    (tie.spec
+    leads-to-requires
+    number-at-requires
+    mul-change-of
+    add-change-of
+    element-copy-out-change-of
+    mul-change-of-2
+    add-change-of-2
+    element-copy-out-change-of-2
+    change-of-requires
+    slid-requires
+    returns)

@@ -3,18 +3,20 @@
 -- `Working.antt`), and the loop's measure is the visits left, since each visit counts itself. Assumes nothing.
 use Prim.Native.Nat.{ℕ, _+_, _*_, _-_, _≤_, _<_}
 use mathlib.Core.Path.{_≡_, refl, sym, _∙_, ap}
-use mathlib.Core.Bool.{true}
+use mathlib.Core.Bool.{true, false}
 use mathlib.Core.List.{List}
 use native.Mathlib.Nat.{le-of-lt}
 use native.Mathlib.Omega.{arith}
 use lib.ListN.{length, length-set}
 use borrow.Author.Needs.{needs}
-use borrow.Author.Tests.{not-true, not-false}
+use borrow.Author.Tests.{eq-eqb, ne-eqb, not-true, not-false}
 use borrow.Fn.Kinds.{In}
 use borrow.Fn.PlainCycle.{Measures, is, falls, and}
+use Rattle.board.specs.Board.{isGoal}
 use Rattle.board.specs.Held.{held}
-use Rattle.board.proofs.held.is_goal.Reads as is-goal-reads
+use Rattle.board.proofs.Laws.{kept-goal, leads-on, kept-on}
 use Rattle.board.proofs.moves.after.Reads as after-reads
+use Rattle.board.proofs.moves.changed.Reads as changed-reads
 use Rattle.search.specs.declared.Choice.{Choice}
 use Rattle.search.specs.Row.{goesOn}
 use Rattle.search.specs.Run.{Room, rowAt}
@@ -37,17 +39,17 @@ use Rattle.search.proofs.visits.+visit+work.Lts-work as work-lts
 use Rattle.search.proofs.visits.+visit+work.Tie.{close}
 
 abbrev μ-visit : Measures 3 visit-kinds.ps ℕ
-μ-visit κs a = 2 * (a .0 .ceiling - a .1 .1 .1 .0) + 1
+μ-visit κs a = 2 * (a .0 .ceiling - a .1 .1 .1 .1 .0) + 1
 
 abbrev μ-work : Measures 3 work-kinds.ps ℕ
-μ-work κs a = 2 * (a .0 .ceiling - a .1 .1 .0)
+μ-work κs a = 2 * (a .0 .ceiling - a .1 .1 .1 .0)
 
 abbrev work-Inv-loop : work-lts.InvT-loop
-work-Inv-loop job p g bound left near table₀ moves₀ left₀ table moves left′ =
+work-Inv-loop job p h g bound left near table₀ moves₀ left₀ table moves left′ =
     Working job (held (job .shape) p) g bound table₀ moves₀ left table moves left′
 
 abbrev work-μ-loop : work-lts.MeasureT-loop
-work-μ-loop job p g bound left near table₀ moves₀ left₀ table moves left′ = left′
+work-μ-loop job p h g bound left near table₀ moves₀ left₀ table moves left′ = left′
 
 module _ (t : ℕ) where
   -- what each is given at the measure t, and what a call of it asks below t
@@ -66,8 +68,6 @@ module _ (t : ℕ) where
   -- what is asked and learnt at the calls that each makes
   abbrev visit-claims : visit-lts.Claims
   visit-claims = (
-    is-goal-reads.Asked,
-    is-goal-reads.Learnt,
     first-row-reads.Asked,
     first-row-reads.Learnt,
     work-below,
@@ -86,23 +86,33 @@ module _ (t : ℕ) where
     lesser-reads.Learnt,
     after-reads.Asked,
     after-reads.Learnt,
+    changed-reads.Asked,
+    changed-reads.Learnt,
     visit-below,
     visit.Post,
   )
 
-  -- ---- visit
+  -- ---- visit: the goal is known by distance 0
+
+  abbrev Entered : Type 0
+  Entered = visit-lts.Start visit-claims visit-at visit.Post
+
+  at-zero : (c : Entered) → c .args .h ≡ 0 → isGoal (c .args .job .shape) (held (c .args .job .shape) (c .args .p)) ≡ true
+  at-zero c e = kept-goal _ _ _ (c .pre .1 .1 .0) ∙ eq-eqb _ _ e
+
+  away : (c : Entered) → (c .args .h ≡ 0 → ⊥) → isGoal (c .args .job .shape) (held (c .args .job .shape) (c .args .p)) ≡ false
+  away c e = kept-goal _ _ _ (c .pre .1 .1 .0) ∙ ne-eqb _ _ e
 
   visit-returns : visit-lts.Need-returns visit-claims visit-at visit.Post
   visit-returns c = none-left _ _ _ _ _ _ _ _ _ (c .if1 .taken)
-
-  visit-is-goal-requires : visit-lts.Need-is-goal-requires visit-claims visit-at visit.Post
-  visit-is-goal-requires c κs = c .before .before .before .pre .1 .0 .shape
 
   visit-sub-t13 : visit-lts.Need-sub-t13 visit-claims visit-at visit.Post
   visit-sub-t13 c = omega arith
 
   visit-returns-2 : visit-lts.Need-returns-2 visit-claims visit-at visit.Post
-  visit-returns-2 c = at-goal _ _ _ _ _ _ _ _ _ (c .before .before .if1 .left) (sym (c .before .is-goal .ensures) ∙ c .if2 .taken)
+  visit-returns-2 c =
+      let first = c .before in
+      at-goal _ _ _ _ _ _ _ _ _ (first .if1 .left) (at-zero (first .before .before .before) (c .if2 .taken))
 
   visit-sub-t14 : visit-lts.Need-sub-t14 visit-claims visit-at visit.Post
   visit-sub-t14 c = omega arith
@@ -110,11 +120,12 @@ module _ (t : ℕ) where
   visit-returns-3 : visit-lts.Need-returns-3 visit-claims visit-at visit.Post
   visit-returns-3 c =
       let tests = c .before .before in
-      at-ceiling _ _ _ _ _ _ _ _ _ (tests .before .before .if1 .left) (sym (tests .before .is-goal .ensures) ∙ tests .if2 .left) (c .if3 .taken)
+      let first = tests .before in
+      at-ceiling _ _ _ _ _ _ _ _ _ (first .if1 .left) (away (first .before .before .before) (tests .if2 .left)) (c .if3 .taken)
 
   visit-first-row-requires : visit-lts.Need-first-row-requires visit-claims visit-at visit.Post
   visit-first-row-requires c κs =
-      let pre = c .before .before .before .before .before .before .before .before .pre .1 in
+      let pre = c .before .before .before .before .before .before .before .pre .1 in
       (pre .0, (pre .1 .0, ((pre .1 .1 .0 .0, omega arith), (pre .1 .1 .1 .0, row-fits (pre .1 .1 .1 .1) (pre .1 .1 .0 .1)))))
 
   visit-sub-work : visit-lts.Need-sub-work visit-claims visit-at visit.Post
@@ -123,21 +134,21 @@ module _ (t : ℕ) where
   visit-work-requires : visit-lts.Need-work-requires visit-claims visit-at visit.Post
   visit-work-requires c κs =
       let filled = c .before .before .before .before in
-      let start = filled .before .before .before .before .before .before .before .before .before in
+      let start = filled .before .before .before .before .before .before .before .before in
       let pre = start .pre .1 in
       let fits = row-fits (pre .1 .1 .1 .1) (pre .1 .1 .0 .1) in
-      let isOpen = starts-open (start .args .job) _ _ _ _ _ _ fits (filled .first-row .ensures) (pre .1 .0 .shape) in
-      let room = room-kept (pre .1 .1 .1 .1) (filled .first-row .kept .1 .1 .1 .1 .1 .1 .0) refl in
+      let isOpen = starts-open (start .args .job) _ _ _ _ _ _ fits (filled .first-row .ensures) (pre .1 .0 .holds .shape) in
+      let room = room-kept (pre .1 .1 .1 .1) (filled .first-row .kept .1 .1 .1 .1 .1 .1 .1 .0) refl in
       let deeper = filled .before .before .if3 .left in
       (omega (arith, start .pre .0, deeper), (pre .0, (pre .1 .0, (omega (arith, pre .1 .1 .0 .1, deeper), (pre .1 .1 .1 .0, (room, isOpen))))))
 
   visit-same-length : visit-lts.Need-same-length visit-claims visit-at visit.Post
   visit-same-length c =
       let worked = c .before .before .before .before in
-      worked .work .kept .1 .1 .1 .1 .1 .1 .0 ∙ worked .before .before .before .before .before .first-row .kept .1 .1 .1 .1 .1 .1 .0
+      worked .work .kept .1 .1 .1 .1 .1 .1 .1 .0 ∙ worked .before .before .before .before .before .first-row .kept .1 .1 .1 .1 .1 .1 .1 .0
 
   visit-same-length-2 : visit-lts.Need-same-length-2 visit-claims visit-at visit.Post
-  visit-same-length-2 c = c .before .before .before .before .work .kept .1 .1 .1 .1 .1 .1 .1 .0
+  visit-same-length-2 c = c .before .before .before .before .work .kept .1 .1 .1 .1 .1 .1 .1 .1 .0
 
   visit-returns-4 : visit-lts.Need-returns-4 visit-claims visit-at visit.Post
   visit-returns-4 c =
@@ -145,8 +156,10 @@ module _ (t : ℕ) where
       let filled = worked .before .before .before .before .before in
       let deeper = filled .before .before .if3 .left in
       let tests = filled .before .before .before .before in
-      let pre = tests .before .before .before .before .before .pre .1 in
-      works _ _ _ _ _ _ _ _ _ (tests .before .before .if1 .left) (sym (tests .before .is-goal .ensures) ∙ tests .if2 .left)
+      let first = tests .before in
+      let start = first .before .before .before in
+      let pre = start .pre .1 in
+      works _ _ _ _ _ _ _ _ _ (first .if1 .left) (away start (tests .if2 .left))
       (omega (arith, pre .1 .1 .0 .1, deeper)) (row-fits (pre .1 .1 .1 .1) (pre .1 .1 .0 .1)) _ (filled .first-row .ensures) (worked .work .ensures)
 
   -- ---- work: the places of a turn, and what is known there
@@ -170,17 +183,17 @@ module _ (t : ℕ) where
   start-of c = c .before .before .before
 
   abbrev head-of : Called → Head
-  head-of c = c .before .before .before .before .before .before .before .before .before .before .before
+  head-of c = c .before .before .before .before .before .before .before .before .before .before .before .before .before
 
   abbrev choice-of : Called → Choice
-  choice-of c = c .before .before .before .before .before .before .before .before .before .row-best .result
+  choice-of c = c .before .before .before .before .before .before .before .before .before .before .before .row-best .result
 
   -- the buffers as the visit leaves them
   abbrev table-of : Called → List ℕ
-  table-of c = c .visit .last .1 .1 .1 .1 .1 .1 .1 .1 .0
+  table-of c = c .visit .last .1 .1 .1 .1 .1 .1 .1 .1 .1 .0
 
   abbrev moves-of : Called → List ℕ
-  moves-of c = c .visit .last .1 .1 .1 .1 .1 .1 .1 .1 .1 .0
+  moves-of c = c .visit .last .1 .1 .1 .1 .1 .1 .1 .1 .1 .1 .0
 
   room : (c : Head) → Room (start-of c .args .job) (c .loop .table) (c .loop .moves)
   room c = room-kept (start-of c .pre .1 .1 .1 .1 .1 .0) (c .loop .inv .rows) (ap length (c .loop .inv .path))
@@ -199,24 +212,25 @@ module _ (t : ℕ) where
       VisitMade (a .job) (held (a .job .shape) (a .p)) (a .g) (a .bound) (a .table .now) (a .moves .now) (a .left)
       (head .loop .table) (head .loop .moves) (head .loop .left) (choice-of c) (c .visit .result) (table-of c) (moves-of c)
   visit-made c =
-      let bounds = c .before .before .before .before in
+      let moved = c .before .before .before .before .before in
+      let bounds = moved .before in
       let choice = bounds .before .before .before .before .before in
       record {
         working = head-of c .loop .inv;
         chosen = choice .row-best .ensures;
         on = goes (bounds .before .before .before);
         ran = called _ _ (choice .row-best .ensures) (start-of (head-of c) .args .job) _ _ _ _ _ _ _
-            (c .before .before .before .after .ensures .same) (bounds .before .row-second .ensures) (bounds .lesser .ensures)
+            (moved .after .ensures .position .same) (bounds .before .row-second .ensures) (bounds .lesser .ensures)
             (c .visit .ensures);
-        rows = c .visit .kept .1 .1 .1 .1 .1 .1 .1 .1 .0;
+        rows = c .visit .kept .1 .1 .1 .1 .1 .1 .1 .1 .1 .0;
       }
 
   -- the buffers keep their lengths, so the move's places are in them
   table-long : (c : Called) → length (table-of c) ≡ length (start-of (head-of c) .args .table .now)
-  table-long c = c .visit .kept .1 .1 .1 .1 .1 .1 .1 .1 .0 ∙ head-of c .loop .inv .rows
+  table-long c = c .visit .kept .1 .1 .1 .1 .1 .1 .1 .1 .1 .0 ∙ head-of c .loop .inv .rows
 
   moves-long : (c : Called) → length (moves-of c) ≡ length (start-of (head-of c) .args .moves .now)
-  moves-long c = c .visit .kept .1 .1 .1 .1 .1 .1 .1 .1 .1 .0 ∙ ap length (head-of c .loop .inv .path)
+  moves-long c = c .visit .kept .1 .1 .1 .1 .1 .1 .1 .1 .1 .1 .0 ∙ ap length (head-of c .loop .inv .path)
 
   move-small : (c : Called) → choice-of c .step < 4
   move-small c = chosen-move _ _ (visit-made c .chosen)
@@ -264,22 +278,30 @@ module _ (t : ℕ) where
   work-after-requires c κs =
       let on = c .before .before .before in
       let head = on .before .before .before .before in
-      (start-of head .pre .1 .1 .0, chosen-legal _ _ (on .before .before .row-best .ensures) _ _ _ (head .loop .inv .isOpen) (goes on))
+      let pre = start-of head .pre .1 in
+      (pre .1 .0 .holds, (chosen-legal _ _ (on .before .before .row-best .ensures) _ _ _ (head .loop .inv .isOpen) (goes on), pre .1 .1 .1 .0))
+
+  work-changed-requires : work-lts.Need-changed-requires work-claims work-at work.Post work-Inv-loop work-μ-loop
+  work-changed-requires c κs =
+      let moved = c .before in
+      let head = moved .before .before .before .before .before .before .before .before in
+      leads-on _ _ _ (start-of head .pre .1 .1 .0) _ _ (moved .after .ensures)
 
   work-add-visit : work-lts.Need-add-visit work-claims work-at work.Post work-Inv-loop work-μ-loop
   work-add-visit c =
-      let pre = start-of (c .before .before .before .before .before .before .before .before) .pre .1 in
+      let pre = start-of (c .before .before .before .before .before .before .before .before .before .before) .pre .1 in
       omega (arith, pre .0 .ceiling, pre .1 .1 .0)
 
   work-visit-requires : work-lts.Need-visit-requires work-claims work-at work.Post work-Inv-loop work-μ-loop
   work-visit-requires c κs =
-      let made = c .before .before in
+      let led = c .before .before in
+      let made = led .before .before in
       let choice = made .before .before .before .before .before .before in
       let head = choice .before .before in
       let start = start-of head in
       let pre = start .pre .1 in
       let small = chosen-move _ _ (choice .row-best .ensures) in
-      (omega (arith, start .pre .0, pre .1 .1 .0), (pre .0, (made .after .ensures .holds, ((omega arith, omega (arith, pre .1 .1 .0)), (pre .1 .1 .1 .0, room head)))))
+      (omega (arith, start .pre .0, pre .1 .1 .0), (pre .0, (kept-on _ _ _ (pre .1 .0) _ _ (made .after .ensures) _ (led .changed .ensures), ((omega arith, omega (arith, pre .1 .1 .0)), (pre .1 .1 .1 .0, room head)))))
 
   work-enum-known-length : work-lts.Need-enum-known-length work-claims work-at work.Post work-Inv-loop work-μ-loop
   work-enum-known-length c = search needs
@@ -343,7 +365,6 @@ pub +visit+work-spec : {M : Type 1} → statement M
     close μ-visit μ-work
     (λ t. visit-lts.spec (visit-claims t) (visit-at t) visit.Post
     (visit-returns t)
-    (visit-is-goal-requires t)
     (visit-sub-t13 t)
     (visit-returns-2 t)
     (visit-sub-t14 t)
@@ -364,6 +385,7 @@ pub +visit+work-spec : {M : Type 1} → statement M
     (work-row-second-requires t)
     (work-lesser-requires t)
     (work-after-requires t)
+    (work-changed-requires t)
     (work-add-visit t)
     (work-visit-requires t)
     (work-enum-known-length t)

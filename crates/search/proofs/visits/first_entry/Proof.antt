@@ -1,13 +1,15 @@
--- `search::visits::first_entry` meets its contract: its two tests are those of a successor, and the position after the move holds
--- the board that the definition speaks of. Assumes nothing.
+-- `search::visits::first_entry` meets its contract: its two tests are those of a successor, and the distance that the move's change leads
+-- to is that of the board that the definition speaks of. Assumes nothing.
 use Prim.Native.Nat.{ℕ, suc}
 use mathlib.Core.Path.{_≡_, refl, sym, _∙_}
 use mathlib.Core.Bool.{Bool, true, false, cond, _&&_}
 use native.Mathlib.Numerals.{add-one}
 use borrow.Author.Needs.{needs}
+use Rattle.board.proofs.Laws.{kept-most, leads-on, changed-distance, kept-on}
 use Rattle.search.specs.Space.{Space}
 use Rattle.search.specs.Row.{infinity, takesBack, firstStored}
 use Rattle.search.specs.Search.{isSuccessor, firstEntry}
+use Rattle.search.proofs.code.BoardSpace.{valued}
 use Rattle.search.proofs.visits.first_entry.Statement.{statement}
 use Rattle.search.proofs.visits.first_entry.Tie as tie
 
@@ -40,27 +42,39 @@ legal-requires c κs = search needs
 
 after-requires : tie.Need-after-requires
 after-requires c κs =
-    let entry = c .before .before .before .before in
-    (entry .pre .1 .0, sym (c .before .legal .ensures) ∙ c .if2 .taken)
+    let pre = c .before .before .before .before .pre in
+    (pre .1 .0 .holds, (sym (c .before .legal .ensures) ∙ c .if2 .taken, pre .1 .1 .1 .1))
+
+changed-requires : tie.Need-changed-requires
+changed-requires c κs =
+    let moved = c .before in
+    let start = moved .before .before .before .before .before in
+    leads-on _ _ _ (start .pre .1 .0) _ _ (moved .after .ensures)
 
 add-static-value : tie.Need-add-static-value
 add-static-value c = search needs
 
 static-value-requires : tie.Need-static-value-requires
 static-value-requires c κs =
-    let start = c .before .before .before .before .before in
-    (start .pre .0, (c .after .ensures .holds, (rw add-one (start .pre .1 .1 .0 .1 .0), start .pre .1 .1 .1 .1)))
+    let moved = c .before .before in
+    let start = moved .before .before .before .before .before in
+    let kept = kept-on _ _ _ (start .pre .1 .0) _ _ (moved .after .ensures) _ (c .changed .ensures) in
+    (start .pre .0, (kept-most _ _ _ kept, rw add-one (start .pre .1 .1 .0 .1 .0)))
 
 first-stored-requires : tie.Need-first-stored-requires
 first-stored-requires c κs = search needs
 
+-- the value of the board after the move, by the distance that was led on to it
 returns-2 : tie.Need-returns-2
 returns-2 c =
-    let made = c .before .before in
-    let tested = made .before .before in
+    let led = c .before .before in
+    let moved = led .before .before in
+    let tested = moved .before .before in
     let start = tested .before .before .before in
-    rw (c .first-stored .ensures, start .pre .1 .1 .1 .0, c .before .static-value .ensures, made .after .ensures .same, add-one)
-    (successor _ _ _ _ _ _ _ (sym (tested .legal .ensures) ∙ made .before .if2 .taken)
+    let h = changed-distance _ _ _ (start .pre .1 .0) _ _ (moved .after .ensures) _ (led .changed .ensures) in
+    let own = valued _ _ _ _ _ _ h (c .before .static-value .ensures) in
+    rw (c .first-stored .ensures, start .pre .1 .1 .1 .0, own, add-one)
+    (successor _ _ _ _ _ _ _ (sym (tested .legal .ensures) ∙ moved .before .if2 .taken)
     (sym (tested .before .before .takes-back .ensures) ∙ tested .before .if1 .left))
 
 returns-3 : tie.Need-returns-3
@@ -74,6 +88,7 @@ first-entry-spec =
     returns
     legal-requires
     after-requires
+    changed-requires
     add-static-value
     static-value-requires
     first-stored-requires
