@@ -7,6 +7,7 @@ pub mod Fair
 pub mod Successors
 pub mod Stored
 pub mod Turns
+pub mod Ahead
 pub mod Visits
 pub mod Budget
 pub mod Again

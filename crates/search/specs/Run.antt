@@ -8,9 +8,10 @@ use lib.ListN.{length, take, drop, replicate}
 use Rattle.board.specs.Shape.{GoodShape}
 use Rattle.board.specs.Moves.{legal}
 use Rattle.search.specs.declared.Job.{Job}
+use Rattle.search.specs.declared.Pick.{Pick}
 use Rattle.search.specs.declared.Out.{Out}
 use Rattle.search.specs.declared.Out.the-variants.{Found, Value, Spent}
-use Rattle.search.specs.Row.{infinity, entry}
+use Rattle.search.specs.Row.{infinity, entry, best, second}
 use Rattle.search.specs.Space.{Space, boards}
 use Rattle.search.specs.Search.{Outcome, found, value, spent, static, visit, work, search}
 
@@ -36,6 +37,11 @@ rowAt table g = take 4 (drop (4 * g) table)
 
 abbrev pub putRow : List ℕ → ℕ → List ℕ → List ℕ
 putRow table g r = take (4 * g) table ++ (r ++ drop (4 * g + 4) table)
+
+-- what the code picks of a row: the move to visit, and the second least F
+pub record Picks (r : List ℕ) (x : Pick) : Type 0 where
+  pub isBest : x .step ≡ best r .step
+  pub isSecond : x .second ≡ second r
 
 -- a move whose stored value is not infinity is legal
 abbrev pub Open : Job → List ℕ → List ℕ → Type 0

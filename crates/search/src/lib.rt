@@ -37,6 +37,12 @@ pub struct Choice {
     pub value: u16,
 }
 
+// The move to visit, and the second least value.
+pub struct Pick {
+    pub step: usize,
+    pub second: u16,
+}
+
 // How a visit ends.
 pub enum Out {
     // At the goal: the whole path's length, and the visits left. The path stands in the move buffer.

@@ -1,10 +1,13 @@
 // The decisions over a row of four stored values, each as its definition in specs/Row.antt says.
 use crate::Choice;
+use crate::Pick;
 ghost use mathlib.Core.Path.{_≡_};
 ghost use mathlib.Core.Bool.{not};
+ghost use mathlib.Core.List.{[], _∷_};
 ghost use Prim.Native.Nat.{_≤_, _<_, _+_, min};
-ghost use Rattle.search.specs.Row.{infinity, bestOf, masked, mayGoOn, firstStored, takesBack};
+ghost use Rattle.search.specs.Row.{bestOf, mayGoOn, firstStored, takesBack};
 ghost use Rattle.search.specs.Row.{better as Row·better};
+ghost use Rattle.search.specs.Run.{Picks};
 
 // 65,535 stands for infinity.
 pub const INFINITY: u16 = 65535;
@@ -25,11 +28,26 @@ fn better(x: Choice, y: Choice) -> Choice
     if y.value < x.value { y } else { x }
 }
 
-// A move's value among the others: infinity for the chosen move.
-pub fn other(chosen: usize, m: usize, x: u16) -> u16
-    ensures { λ r. ⌜ r ≡ masked chosen m x ⌝ }
+// The first move whose value is the least, and the least of the other three.
+pub fn picked(a: u16, b: u16, c: u16, d: u16, least: u16) -> Pick
+    requires { ⌜ least ≡ bestOf a b c d .value ⌝ }
+    ensures { λ r. ⌜ Picks (a ∷ b ∷ c ∷ d ∷ []) r ⌝ }
 {
-    if m == chosen { INFINITY } else { x }
+    if a == least {
+        let second = lesser(b, lesser(c, d));
+        return Pick { step: 0, second };
+    }
+    if b == least {
+        let second = lesser(a, lesser(c, d));
+        return Pick { step: 1, second };
+    }
+    let ab = lesser(a, b);
+    if c == least {
+        let second = lesser(ab, d);
+        return Pick { step: 2, second };
+    }
+    let second = lesser(ab, c);
+    Pick { step: 3, second }
 }
 
 // The least value is above the bound, or infinity: the work ends.

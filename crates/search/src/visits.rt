@@ -6,11 +6,12 @@
 use crate::Choice;
 use crate::Job;
 use crate::Out;
+use crate::Pick;
 use crate::row::INFINITY;
 use crate::row::best_of;
 use crate::row::first_stored;
 use crate::row::lesser;
-use crate::row::other;
+use crate::row::picked;
 use crate::row::stops_at;
 use crate::row::takes_back;
 use board::Position;
@@ -23,10 +24,10 @@ ghost use lib.ListN.{length};
 ghost use Rattle.board.specs.Held.{held};
 ghost use Rattle.board.specs.Distance.{NearTable};
 ghost use Rattle.board.specs.Change.{Kept};
-ghost use Rattle.search.specs.Row.{best, second};
+ghost use Rattle.search.specs.Row.{best};
 ghost use Rattle.search.specs.Space.{boards};
 ghost use Rattle.search.specs.Search.{static, firstEntry, firstRow};
-ghost use Rattle.search.specs.Run.{SmallJob, Room, rowAt, putRow, visited, worked, Ran, Open};
+ghost use Rattle.search.specs.Run.{SmallJob, Room, rowAt, putRow, visited, worked, Ran, Open, Picks};
 
 // A visit to the position at depth g, reached by the move `last`, with its stored value and a bound; `left` visits may still be made.
 pub fn visit(
@@ -85,14 +86,16 @@ fn work(
         (now (table .entry)) (now (moves .entry)) r (now (table .exit)) (now (moves .exit)) ⌝ }
 {
     let mut left = left;
+    let best = row_best(table, g);
+    let mut least = best.value;
+    if stops_at(bound, least) {
+        return Out::Value(least, left);
+    }
     loop {
-        let best = row_best(table, g);
-        let m = best.step;
-        let least = best.value;
-        if stops_at(bound, least) {
-            return Out::Value(least, left);
-        }
-        let down = lesser(bound, row_second(table, g, m));
+        let pick = row_pick(table, g, least);
+        let m = pick.step;
+        let second = pick.second;
+        let down = lesser(bound, second);
         let next = after(job.shape, p, m, near);
         let next_h = changed(h, next.change);
         match visit(
@@ -113,7 +116,13 @@ fn work(
                 return Out::Found(length, rest);
             }
             Out::Value(v, rest) => {
+                // v is above the bound handed down, or infinity. So where the second least stops the work, this visit was the last;
+                if stops_at(bound, second) {
+                    return Out::Value(lesser(v, second), rest);
+                }
+                // and otherwise the second least is the row's least now.
                 table[4 * g + m] = v;
+                least = second;
                 left = rest;
             }
             Out::Spent => return Out::Spent,
@@ -130,20 +139,20 @@ fn row_best(table: &[u16], g: usize) -> Choice
     best_of(table[at], table[at + 1], table[at + 2], table[at + 3])
 }
 
-// The second least value of the row of depth g, whose best move is m.
-fn row_second(table: &[u16], g: usize, m: usize) -> u16
+// The move to visit of the row of depth g, whose least value is given, and the second least value.
+fn row_pick(table: &[u16], g: usize, least: u16) -> Pick
     requires { ⌜ 4 * (g + 1) ≤ length (now table) ⌝ }
-    requires { ⌜ m ≡ best (rowAt (now table) g) .step ⌝ }
-    ensures { λ r. ⌜ r ≡ second (rowAt (now (table .entry)) g) ⌝ }
+    requires { ⌜ least ≡ best (rowAt (now table) g) .value ⌝ }
+    ensures { λ r. ⌜ Picks (rowAt (now (table .entry)) g) r ⌝ }
 {
     let at = 4 * g;
-    let rest = best_of(
-        other(m, 0, table[at]),
-        other(m, 1, table[at + 1]),
-        other(m, 2, table[at + 2]),
-        other(m, 3, table[at + 3]),
-    );
-    rest.value
+    picked(
+        table[at],
+        table[at + 1],
+        table[at + 2],
+        table[at + 3],
+        least,
+    )
 }
 
 // Puts the first stored values of the successors into the row of depth g.

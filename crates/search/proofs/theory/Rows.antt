@@ -10,7 +10,7 @@ use native.Mathlib.Decide.{decLt, ℕ-discrete}
 use lib.Dec.{leb, ltb, eqb}
 use lib.ListN.{length, set, List·getD-eq-default}
 use lib.Seq.{getD-set-same, getD-set-other}
-use borrow.Author.Tests.{ltb-true, ltb-false, leb-true, leb-false, ne-eqb}
+use borrow.Author.Tests.{ltb-true, ltb-false, leb-true, leb-false, eqb-false, ne-eqb}
 use Rattle.search.specs.declared.Choice.{Choice}
 use Rattle.search.specs.Space.{Space}
 use Rattle.search.specs.Row.{infinity, entry, better, bestOf, best, masked, other, second, mayGoOn, goesOn, handedDown, firstStored}
@@ -86,14 +86,18 @@ module _ (r : List ℕ) where
   unfolding second
   second-least m h k = subst (λ (x : ℕ). second r ≤ x) (other-entry m k) (bestOf-least (other r (best r .step)) m h)
 
-  -- which is itself at least the least
-  pub best-second : best r .value ≤ infinity → best r .value ≤ second r
+  -- it is what another move has, or infinity
+  pub second-one : (P : ℕ → Type 0) → P infinity → ((m : ℕ) → m < 4 → m ≢ best r .step → P (entry r m)) → P (second r)
   unfolding second masked
-  best-second small = bestOf-one (λ c. best r .value ≤ c .value) (other r (best r .step)) (λ m h. go m h (eqb m (best r .step)))
+  second-one P none others = bestOf-one (λ c. P (c .value)) (other r (best r .step)) (λ m h. go m h (eqb m (best r .step)) refl)
     where
-      go : (m : ℕ) → m < 4 → (t : Bool) → best r .value ≤ cond t infinity (entry r m)
-      go m h true = small
-      go m h false = best-least m h
+      go : (m : ℕ) → m < 4 → (t : Bool) → eqb m (best r .step) ≡ t → P (cond t infinity (entry r m))
+      go m h true e = none
+      go m h false e = others m h (eqb-false m (best r .step) e)
+
+  -- so it is itself at least the least
+  pub best-second : best r .value ≤ infinity → best r .value ≤ second r
+  best-second small = second-one (λ x. best r .value ≤ x) small (λ m h d. best-least m h)
 
   module _ (bound : ℕ) where
     -- the loop goes on: the least F is within the bound and not infinity

@@ -18,17 +18,16 @@ use Rattle.board.proofs.Laws.{kept-goal, leads-on, kept-on}
 use Rattle.board.proofs.moves.after.Reads as after-reads
 use Rattle.board.proofs.moves.changed.Reads as changed-reads
 use Rattle.search.specs.declared.Choice.{Choice}
-use Rattle.search.specs.Row.{goesOn}
-use Rattle.search.specs.Run.{Room, rowAt}
+use Rattle.search.specs.Run.{Room}
 use Rattle.search.proofs.code.TableRows.{room-kept, row-fits}
 use Rattle.search.proofs.code.Visiting.{starts-open, none-left, at-goal, at-ceiling, works}
-use Rattle.search.proofs.code.Working.{chosen-move, chosen-legal, tested, called, Working, begins, ends}
-use Rattle.search.proofs.code.Working.{VisitMade, found-ends, spent-ends, value-less, value-goes-on}
+use Rattle.search.proofs.code.Working.{picked-move, picked-legal, called, none-made, Working, begins}
+use Rattle.search.proofs.code.Working.{VisitMade, found-ends, spent-ends, value-less, last-ends, value-goes-on}
 use Rattle.search.proofs.row.lesser.Reads as lesser-reads
 use Rattle.search.proofs.row.stops_at.Reads as stops-at-reads
 use Rattle.search.proofs.visits.first_row.Reads as first-row-reads
 use Rattle.search.proofs.visits.row_best.Reads as row-best-reads
-use Rattle.search.proofs.visits.row_second.Reads as row-second-reads
+use Rattle.search.proofs.visits.row_pick.Reads as row-pick-reads
 use Rattle.search.proofs.visits.visit.Reads as visit
 use Rattle.search.proofs.visits.visit.Kinds as visit-kinds
 use Rattle.search.proofs.visits.work.Reads as work
@@ -45,11 +44,11 @@ abbrev μ-work : Measures 3 work-kinds.ps ℕ
 μ-work κs a = 2 * (a .0 .ceiling - a .1 .1 .1 .0)
 
 abbrev work-Inv-loop : work-lts.InvT-loop
-work-Inv-loop job p h g bound left near table₀ moves₀ left₀ table moves left′ =
-    Working job (held (job .shape) p) g bound table₀ moves₀ left table moves left′
+work-Inv-loop job p h g bound left near table₀ moves₀ left₀ least₀ table moves left′ least =
+    Working job (held (job .shape) p) g bound table₀ moves₀ left table moves left′ least
 
 abbrev work-μ-loop : work-lts.MeasureT-loop
-work-μ-loop job p h g bound left near table₀ moves₀ left₀ table moves left′ = left′
+work-μ-loop job p h g bound left near table₀ moves₀ left₀ least₀ table moves left′ least = left′
 
 module _ (t : ℕ) where
   -- what each is given at the measure t, and what a call of it asks below t
@@ -80,8 +79,8 @@ module _ (t : ℕ) where
     row-best-reads.Learnt,
     stops-at-reads.Asked,
     stops-at-reads.Learnt,
-    row-second-reads.Asked,
-    row-second-reads.Learnt,
+    row-pick-reads.Asked,
+    row-pick-reads.Learnt,
     lesser-reads.Asked,
     lesser-reads.Learnt,
     after-reads.Asked,
@@ -171,22 +170,40 @@ module _ (t : ℕ) where
   abbrev Head : Type 0
   Head = work-lts.At-loop work-claims work-at work.Post work-Inv-loop work-μ-loop
 
-  -- past the code's test
-  abbrev Onward : Type 0
-  Onward = work-lts.Else1 work-claims work-at work.Post work-Inv-loop work-μ-loop
+  -- past the pick
+  abbrev Picked : Type 0
+  Picked = work-lts.After-row-pick work-claims work-at work.Post work-Inv-loop work-μ-loop
 
-  -- past the visit
+  -- past the visit, and in each arm of its answer: the goal, a value, nothing
   abbrev Called : Type 0
   Called = work-lts.After-visit work-claims work-at work.Post work-Inv-loop work-μ-loop
 
+  abbrev InFound : Type 0
+  InFound = work-lts.After-known-told work-claims work-at work.Post work-Inv-loop work-μ-loop
+
+  abbrev InValue : Type 0
+  InValue = work-lts.After-stops-at2 work-claims work-at work.Post work-Inv-loop work-μ-loop
+
+  abbrev InSpent : Type 0
+  InSpent = work-lts.After-enum-told work-claims work-at work.Post work-Inv-loop work-μ-loop
+
   abbrev start-of : Head → Start
-  start-of c = c .before .before .before
+  start-of c = c .before .before .before .before .before .before .before
 
-  abbrev head-of : Called → Head
-  head-of c = c .before .before .before .before .before .before .before .before .before .before .before .before .before
+  abbrev head-of : Picked → Head
+  head-of c = c .before .before
 
-  abbrev choice-of : Called → Choice
-  choice-of c = c .before .before .before .before .before .before .before .before .before .before .before .row-best .result
+  abbrev picked-of : Called → Picked
+  picked-of c = c .before .before .before .before .before .before .before
+
+  abbrev found-at : InFound → Called
+  found-at c = c .before .before .before .before .before .before .before
+
+  abbrev value-at : InValue → Called
+  value-at c = c .before .before .before .before .before .before .before .before
+
+  abbrev spent-at : InSpent → Called
+  spent-at c = c .before .before .before .before .before .before
 
   -- the buffers as the visit leaves them
   abbrev table-of : Called → List ℕ
@@ -201,164 +218,194 @@ module _ (t : ℕ) where
   fits : (c : Head) → 4 * (start-of c .args .g + 1) ≤ length (c .loop .table)
   fits c = row-fits (room c) (le-of-lt (start-of c .pre .1 .1 .1 .0))
 
-  goes : (c : Onward) →
-      let head = c .before .before .before .before in
-      goesOn (start-of head .args .bound) (rowAt (head .loop .table) (start-of head .args .g)) ≡ true
-  goes c = not-false _ (tested _ _ (c .before .before .row-best .ensures) _ (c .before .stops-at .ensures) ∙ c .if1 .left)
-
   visit-made : (c : Called) →
-      let head = head-of c in
+      let picked = picked-of c in
+      let head = head-of picked in
       let a = start-of head .args in
       VisitMade (a .job) (held (a .job .shape) (a .p)) (a .g) (a .bound) (a .table .now) (a .moves .now) (a .left)
-      (head .loop .table) (head .loop .moves) (head .loop .left) (choice-of c) (c .visit .result) (table-of c) (moves-of c)
+      (head .loop .table) (head .loop .moves) (head .loop .left) (head .loop .least) (picked .row-pick .result)
+      (c .visit .result) (table-of c) (moves-of c)
   visit-made c =
       let moved = c .before .before .before .before .before in
-      let bounds = moved .before in
-      let choice = bounds .before .before .before .before .before in
+      let picked = picked-of c in
+      let head = head-of picked in
       record {
-        working = head-of c .loop .inv;
-        chosen = choice .row-best .ensures;
-        on = goes (bounds .before .before .before);
-        ran = called _ _ (choice .row-best .ensures) (start-of (head-of c) .args .job) _ _ _ _ _ _ _
-            (moved .after .ensures .position .same) (bounds .before .row-second .ensures) (bounds .lesser .ensures)
+        working = head .loop .inv;
+        picks = picked .row-pick .ensures;
+        ran = called _ _ (picked .row-pick .ensures) (start-of head .args .job) _ _ _ _ _ _ _
+            (moved .after .ensures .position .same) (head .loop .inv .isLeast) (moved .before .lesser .ensures)
             (c .visit .ensures);
         rows = c .visit .kept .1 .1 .1 .1 .1 .1 .1 .1 .1 .0;
       }
 
   -- the buffers keep their lengths, so the move's places are in them
-  table-long : (c : Called) → length (table-of c) ≡ length (start-of (head-of c) .args .table .now)
-  table-long c = c .visit .kept .1 .1 .1 .1 .1 .1 .1 .1 .1 .0 ∙ head-of c .loop .inv .rows
+  table-long : (c : Called) → length (table-of c) ≡ length (start-of (head-of (picked-of c)) .args .table .now)
+  table-long c = c .visit .kept .1 .1 .1 .1 .1 .1 .1 .1 .1 .0 ∙ head-of (picked-of c) .loop .inv .rows
 
-  moves-long : (c : Called) → length (moves-of c) ≡ length (start-of (head-of c) .args .moves .now)
-  moves-long c = c .visit .kept .1 .1 .1 .1 .1 .1 .1 .1 .1 .1 .0 ∙ ap length (head-of c .loop .inv .path)
+  moves-long : (c : Called) → length (moves-of c) ≡ length (start-of (head-of (picked-of c)) .args .moves .now)
+  moves-long c = c .visit .kept .1 .1 .1 .1 .1 .1 .1 .1 .1 .1 .0 ∙ ap length (head-of (picked-of c) .loop .inv .path)
 
-  move-small : (c : Called) → choice-of c .step < 4
-  move-small c = chosen-move _ _ (visit-made c .chosen)
+  move-small : (c : Picked) → c .row-pick .result .step < 4
+  move-small c = picked-move _ _ (c .row-pick .ensures)
 
-  path-place : (c : Called) → start-of (head-of c) .args .g < length (start-of (head-of c) .args .moves .now)
+  path-place : (c : Picked) → start-of (head-of c) .args .g < length (start-of (head-of c) .args .moves .now)
   path-place c =
       let pre = start-of (head-of c) .pre .1 in
       omega (arith, pre .1 .1 .0, pre .1 .1 .1 .1 .0 .path)
 
-  place-small : (c : Called) → 4 * start-of (head-of c) .args .g + choice-of c .step < 484
+  place-small : (c : Picked) → 4 * start-of (head-of c) .args .g + c .row-pick .result .step < 484
   place-small c =
       let pre = start-of (head-of c) .pre .1 in
       omega (arith, pre .0 .ceiling, pre .1 .1 .0, move-small c)
 
   -- ---- work
 
-  work-loop-holds : work-lts.Need-loop-holds work-claims work-at work.Post work-Inv-loop work-μ-loop
-  work-loop-holds c = begins _ _ _ _ _ _ _ (c .before .before .pre .1 .1 .1 .1 .1 .1)
-
   work-row-best-requires : work-lts.Need-row-best-requires work-claims work-at work.Post work-Inv-loop work-μ-loop
-  work-row-best-requires c κs = fits (c .before)
+  work-row-best-requires c κs =
+      let start = c .before .before .before in
+      row-fits (start .pre .1 .1 .1 .1 .1 .0) (le-of-lt (start .pre .1 .1 .1 .0))
 
   work-stops-at-requires : work-lts.Need-stops-at-requires work-claims work-at work.Post work-Inv-loop work-μ-loop
   work-stops-at-requires c κs = tt
 
   work-same-length : work-lts.Need-same-length work-claims work-at work.Post work-Inv-loop work-μ-loop
-  work-same-length c = c .before .before .before .before .loop .inv .rows
-
-  work-same-length-2 : work-lts.Need-same-length-2 work-claims work-at work.Post work-Inv-loop work-μ-loop
-  work-same-length-2 c = ap length (c .before .before .before .before .loop .inv .path)
+  work-same-length c = refl
 
   work-returns : work-lts.Need-returns work-claims work-at work.Post work-Inv-loop work-μ-loop
   work-returns c =
-      let chosen = c .before .before .row-best .ensures in
-      let stop = not-true _ (tested _ _ chosen _ (c .before .stops-at .ensures) ∙ c .if1 .taken) in
-      ends _ _ _ _ _ _ _ _ _ _ _ (c .before .before .before .before .loop .inv) chosen stop
+      let is = ap (λ (x : Choice). x .value) (c .before .before .row-best .ensures) in
+      none-made _ _ _ _ _ _ _ _ is (not-true _ (sym (c .before .stops-at .ensures) ∙ c .if1 .taken))
 
-  work-row-second-requires : work-lts.Need-row-second-requires work-claims work-at work.Post work-Inv-loop work-μ-loop
-  work-row-second-requires c κs = (fits (c .before .before .before .before .before), ap (λ (x : Choice). x .step) (c .before .before .before .row-best .ensures))
+  work-loop-holds : work-lts.Need-loop-holds work-claims work-at work.Post work-Inv-loop work-μ-loop
+  work-loop-holds c =
+      let best = c .before .before in
+      let start = best .before .before .before .before in
+      begins _ _ _ _ _ _ _ _ (ap (λ (x : Choice). x .value) (best .row-best .ensures))
+      (not-false _ (sym (c .before .stops-at .ensures) ∙ c .if1 .left)) (start .pre .1 .1 .1 .1 .1 .1)
+
+  work-row-pick-requires : work-lts.Need-row-pick-requires work-claims work-at work.Post work-Inv-loop work-μ-loop
+  work-row-pick-requires c κs = (fits (c .before), c .before .loop .inv .isLeast)
 
   work-lesser-requires : work-lts.Need-lesser-requires work-claims work-at work.Post work-Inv-loop work-μ-loop
   work-lesser-requires c κs = tt
 
   work-after-requires : work-lts.Need-after-requires work-claims work-at work.Post work-Inv-loop work-μ-loop
   work-after-requires c κs =
-      let on = c .before .before .before in
-      let head = on .before .before .before .before in
-      let pre = start-of head .pre .1 in
-      (pre .1 .0 .holds, (chosen-legal _ _ (on .before .before .row-best .ensures) _ _ _ (head .loop .inv .isOpen) (goes on), pre .1 .1 .1 .0))
+      let picked = c .before in
+      let head = head-of picked in
+      let pre = start-of head .pre .1 in (
+        pre .1 .0 .holds,
+        (picked-legal _ _ (picked .row-pick .ensures) _ _ _ (head .loop .inv .isOpen) (head .loop .inv .on), pre .1 .1 .1 .0),
+      )
 
   work-changed-requires : work-lts.Need-changed-requires work-claims work-at work.Post work-Inv-loop work-μ-loop
   work-changed-requires c κs =
       let moved = c .before in
-      let head = moved .before .before .before .before .before .before .before .before in
-      leads-on _ _ _ (start-of head .pre .1 .1 .0) _ _ (moved .after .ensures)
+      leads-on _ _ _ (start-of (head-of (moved .before .before)) .pre .1 .1 .0) _ _ (moved .after .ensures)
 
   work-add-visit : work-lts.Need-add-visit work-claims work-at work.Post work-Inv-loop work-μ-loop
   work-add-visit c =
-      let pre = start-of (c .before .before .before .before .before .before .before .before .before .before) .pre .1 in
+      let picked = c .before .before .before .before in
+      let pre = start-of (head-of picked) .pre .1 in
       omega (arith, pre .0 .ceiling, pre .1 .1 .0)
 
   work-visit-requires : work-lts.Need-visit-requires work-claims work-at work.Post work-Inv-loop work-μ-loop
   work-visit-requires c κs =
       let led = c .before .before in
-      let made = led .before .before in
-      let choice = made .before .before .before .before .before .before in
-      let head = choice .before .before in
+      let moved = led .before .before in
+      let picked = moved .before .before in
+      let head = head-of picked in
       let start = start-of head in
       let pre = start .pre .1 in
-      let small = chosen-move _ _ (choice .row-best .ensures) in
-      (omega (arith, start .pre .0, pre .1 .1 .0), (pre .0, (kept-on _ _ _ (pre .1 .0) _ _ (made .after .ensures) _ (led .changed .ensures), ((omega arith, omega (arith, pre .1 .1 .0)), (pre .1 .1 .1 .0, room head)))))
+      let small = move-small picked in
+      let kept = kept-on _ _ _ (pre .1 .0) _ _ (moved .after .ensures) _ (led .changed .ensures) in (
+        omega (arith, start .pre .0, pre .1 .1 .0),
+        (pre .0, (kept, ((omega arith, omega (arith, pre .1 .1 .0)), (pre .1 .1 .1 .0, room head)))),
+      )
+
+  -- the goal
 
   work-enum-known-length : work-lts.Need-enum-known-length work-claims work-at work.Post work-Inv-loop work-μ-loop
   work-enum-known-length c = search needs
 
   work-cast-moves : work-lts.Need-cast-moves work-claims work-at work.Post work-Inv-loop work-μ-loop
-  work-cast-moves c = omega (arith, move-small (c .before .before .before .before .before .before .before))
+  work-cast-moves c = omega (arith, move-small (picked-of (found-at c)))
 
   work-slice-write-moves : work-lts.Need-slice-write-moves work-claims work-at work.Post work-Inv-loop work-μ-loop
-  work-slice-write-moves c =
-      let made = c .before .before .before .before .before .before .before in
-      omega (arith, path-place made, moves-long made)
+  work-slice-write-moves c = omega (arith, path-place (picked-of (found-at c)), moves-long (found-at c))
+
+  work-same-length-2 : work-lts.Need-same-length-2 work-claims work-at work.Post work-Inv-loop work-μ-loop
+  work-same-length-2 c = table-long (found-at c)
 
   work-same-length-3 : work-lts.Need-same-length-3 work-claims work-at work.Post work-Inv-loop work-μ-loop
-  work-same-length-3 c = table-long (c .before .before .before .before .before .before .before)
-
-  work-same-length-4 : work-lts.Need-same-length-4 work-claims work-at work.Post work-Inv-loop work-μ-loop
-  work-same-length-4 c = simp length-set (moves-long (c .before .before .before .before .before .before .before))
+  work-same-length-3 c = simp length-set (moves-long (found-at c))
 
   work-returns-2 : work-lts.Need-returns-2 work-claims work-at work.Post work-Inv-loop work-μ-loop
   work-returns-2 c =
-      let made = c .before .before .before .before .before .before .before in
-      found-ends _ _ _ _ _ _ _ _ _ _ _ _ _ _ (visit-made made) _ _ (c .before .length .given .1) (path-place made)
+      let made = found-at c in
+      found-ends _ _ _ _ _ _ _ _ _ _ _ _ _ _ _ (visit-made made) _ _ (c .before .length .given .1) (path-place (picked-of made))
+
+  -- a value
 
   work-enum-known-v : work-lts.Need-enum-known-v work-claims work-at work.Post work-Inv-loop work-μ-loop
   work-enum-known-v c = search needs
 
+  work-stops-at-requires-2 : work-lts.Need-stops-at-requires-2 work-claims work-at work.Post work-Inv-loop work-μ-loop
+  work-stops-at-requires-2 c κs = tt
+
+  work-lesser-requires-2 : work-lts.Need-lesser-requires-2 work-claims work-at work.Post work-Inv-loop work-μ-loop
+  work-lesser-requires-2 c κs = tt
+
+  work-same-length-4 : work-lts.Need-same-length-4 work-claims work-at work.Post work-Inv-loop work-μ-loop
+  work-same-length-4 c = table-long (value-at (c .before .before))
+
+  work-same-length-5 : work-lts.Need-same-length-5 work-claims work-at work.Post work-Inv-loop work-μ-loop
+  work-same-length-5 c = moves-long (value-at (c .before .before))
+
+  work-returns-3 : work-lts.Need-returns-3 work-claims work-at work.Post work-Inv-loop work-μ-loop
+  work-returns-3 c =
+      let test = c .before .before in
+      last-ends _ _ _ _ _ _ _ _ _ _ _ _ _ _ _ (visit-made (value-at test)) _ _ (omega arith) (test .before .before .v .given .1)
+      (not-true _ (sym (test .stops-at2 .ensures) ∙ c .before .if2 .taken)) _ (c .lesser2 .ensures)
+
   work-mul-table : work-lts.Need-mul-table work-claims work-at work.Post work-Inv-loop work-μ-loop
-  work-mul-table c = omega (arith, place-small (c .before .before .before .before .before .before .before))
+  work-mul-table c = omega (arith, place-small (picked-of (value-at (c .before))))
 
   work-add-table : work-lts.Need-add-table work-claims work-at work.Post work-Inv-loop work-μ-loop
-  work-add-table c = omega (arith, place-small (c .before .before .before .before .before .before .before))
+  work-add-table c = omega (arith, place-small (picked-of (value-at (c .before))))
 
   work-mul-table-2 : work-lts.Need-mul-table-2 work-claims work-at work.Post work-Inv-loop work-μ-loop
-  work-mul-table-2 c = omega (arith, place-small (c .before .before .before .before .before .before .before))
+  work-mul-table-2 c = omega (arith, place-small (picked-of (value-at (c .before))))
 
   work-slice-write-table : work-lts.Need-slice-write-table work-claims work-at work.Post work-Inv-loop work-μ-loop
   work-slice-write-table c =
-      let made = c .before .before .before .before .before .before .before in
-      omega (arith, fits (head-of made), move-small made, visit-made made .rows)
+      let made = value-at (c .before) in
+      omega (arith, fits (head-of (picked-of made)), move-small (picked-of made), visit-made made .rows)
 
   work-loop-less : work-lts.Need-loop-less work-claims work-at work.Post work-Inv-loop work-μ-loop
-  work-loop-less c = value-less _ _ _ _ _ _ _ _ _ _ _ _ _ _ (visit-made (c .before .before .before .before .before .before .before)) _ _ (c .before .v .given .1)
+  work-loop-less c =
+      let test = c .before in
+      value-less _ _ _ _ _ _ _ _ _ _ _ _ _ _ _ (visit-made (value-at test)) _ _ (omega arith) (test .before .before .v .given .1)
 
   work-loop-again : work-lts.Need-loop-again work-claims work-at work.Post work-Inv-loop work-μ-loop
-  work-loop-again c = value-goes-on _ _ _ _ _ _ _ _ _ _ _ _ _ _ (visit-made (c .before .before .before .before .before .before .before)) _ _ (c .before .v .given .1)
+  work-loop-again c =
+      let test = c .before in
+      value-goes-on _ _ _ _ _ _ _ _ _ _ _ _ _ _ _ (visit-made (value-at test)) _ _ (omega arith) (test .before .before .v .given .1)
+      (not-false _ (sym (test .stops-at2 .ensures) ∙ c .if2 .left))
+
+  -- no visit was left
 
   work-enum-told : work-lts.Need-enum-told work-claims work-at work.Post work-Inv-loop work-μ-loop
   work-enum-told c = search needs
 
-  work-same-length-5 : work-lts.Need-same-length-5 work-claims work-at work.Post work-Inv-loop work-μ-loop
-  work-same-length-5 c = table-long (c .before .before .before .before .before .before)
-
   work-same-length-6 : work-lts.Need-same-length-6 work-claims work-at work.Post work-Inv-loop work-μ-loop
-  work-same-length-6 c = moves-long (c .before .before .before .before .before .before)
+  work-same-length-6 c = table-long (spent-at c)
 
-  work-returns-3 : work-lts.Need-returns-3 work-claims work-at work.Post work-Inv-loop work-μ-loop
-  work-returns-3 c = spent-ends _ _ _ _ _ _ _ _ _ _ _ _ _ _ (visit-made (c .before .before .before .before .before .before)) (c .enum-told .given .1)
+  work-same-length-7 : work-lts.Need-same-length-7 work-claims work-at work.Post work-Inv-loop work-μ-loop
+  work-same-length-7 c = moves-long (spent-at c)
+
+  work-returns-4 : work-lts.Need-returns-4 work-claims work-at work.Post work-Inv-loop work-μ-loop
+  work-returns-4 c = spent-ends _ _ _ _ _ _ _ _ _ _ _ _ _ _ _ (visit-made (spent-at c)) (c .enum-told .given .1)
 
 pub +visit+work-spec : {M : Type 1} → statement M
 +visit+work-spec =
@@ -376,13 +423,12 @@ pub +visit+work-spec : {M : Type 1} → statement M
     (visit-same-length-2 t)
     (visit-returns-4 t))
     (λ t. work-lts.spec (work-claims t) (work-at t) work.Post work-Inv-loop work-μ-loop
-    (work-loop-holds t)
     (work-row-best-requires t)
     (work-stops-at-requires t)
     (work-same-length t)
-    (work-same-length-2 t)
     (work-returns t)
-    (work-row-second-requires t)
+    (work-loop-holds t)
+    (work-row-pick-requires t)
     (work-lesser-requires t)
     (work-after-requires t)
     (work-changed-requires t)
@@ -391,10 +437,15 @@ pub +visit+work-spec : {M : Type 1} → statement M
     (work-enum-known-length t)
     (work-cast-moves t)
     (work-slice-write-moves t)
+    (work-same-length-2 t)
     (work-same-length-3 t)
-    (work-same-length-4 t)
     (work-returns-2 t)
     (work-enum-known-v t)
+    (work-stops-at-requires-2 t)
+    (work-lesser-requires-2 t)
+    (work-same-length-4 t)
+    (work-same-length-5 t)
+    (work-returns-3 t)
     (work-mul-table t)
     (work-add-table t)
     (work-mul-table-2 t)
@@ -402,6 +453,6 @@ pub +visit+work-spec : {M : Type 1} → statement M
     (work-loop-less t)
     (work-loop-again t)
     (work-enum-told t)
-    (work-same-length-5 t)
     (work-same-length-6 t)
-    (work-returns-3 t))
+    (work-same-length-7 t)
+    (work-returns-4 t))
