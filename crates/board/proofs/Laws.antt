@@ -42,6 +42,8 @@ pub use Rattle.board.proofs.theory.Distances.{distance-0-goal, distance
 -- the change of distance by a move and along a list, and the distance kept beside a position
 pub use Rattle.board.proofs.theory.Changes.{looked-up, readBack, read-back, move-change, move-one-step, answered-change, list-distance}
 pub use Rattle.board.proofs.theory.Keeping.{goal-by-distance, kept-most, kept-goal, leads-on, changed-distance, kept-on}
+-- a held board's cells as the digits of a number
+pub use Rattle.board.proofs.theory.Digits.{length-digits, at-digits}
 -- the parity of test 9
 pub use Rattle.board.proofs.theory.Inversions.{swap-turns-inversions}
 pub use Rattle.board.proofs.theory.Parities.{goal-inversions, goal-not-odd, move-keeps-parity, list-keeps-parity}

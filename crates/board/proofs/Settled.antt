@@ -6,10 +6,10 @@
 --     one-near-table    `distance::near_table`
 -- Every other public function's statement is an equation `r ≡ ..`, which allows one result by itself. Assumes nothing.
 use Prim.Native.Nat.{ℕ, _+_, _*_, _/_, _%_, _<_}
-use mathlib.Core.Path.{_≡_, sym, ap, ap₂, _∙_}
-use mathlib.Core.List.{List, _++_}
+use mathlib.Core.Path.{_≡_, sym, ap, _∙_}
+use mathlib.Core.List.{List}
 use native.Mathlib.Omega.{arith}
-use lib.ListN.{length, getD, take, drop, take-append-drop}
+use lib.ListN.{length, getD}
 use lib.IntN.{ℤ, pos, _+ℤ_, natAbs}
 use lib.Seq.{ext-getD}
 use Rattle.board.specs.declared.Shape.{Shape}
@@ -22,6 +22,7 @@ use Rattle.board.specs.Moves.{after}
 use Rattle.board.specs.Distance.{distance}
 use Rattle.board.specs.Held.{held, Taken}
 use Rattle.board.specs.Change.{MovedBy}
+use Rattle.board.proofs.theory.Digits.{packed, packed-digits}
 use Rattle.board.proofs.theory.Changes.{one-change}
 
 position-is : (p q : Position) → p .cells ≡ q .cells → p .empty ≡ q .empty → p ≡ q
@@ -33,11 +34,12 @@ one-position s b p q t u = position-is p q whole (t .holds .empty ∙ ap emptyCe
     same : held s p ≡ held s q
     same = t .same ∙ sym (u .same)
 
+    -- a number is what its digits make, as there is nothing above them
     whole : p .cells ≡ q .cells
     whole =
-        sym (take-append-drop (cells s) (p .cells))
-        ∙ ap₂ _++_ same (t .holds .rest ∙ sym (u .holds .rest))
-        ∙ take-append-drop (cells s) (q .cells)
+        sym (packed-digits (cells s) (p .cells) (t .holds .rest))
+        ∙ ap packed same
+        ∙ packed-digits (cells s) (q .cells) (u .holds .rest)
 
 moved-is : (r r′ : Moved) → r .position ≡ r′ .position → r .change ≡ r′ .change → r ≡ r′
 moved-is r r′ e f = λ i. record { position = e i; change = f i }

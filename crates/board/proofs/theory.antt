@@ -1,6 +1,7 @@
 -- About the definitions alone, each file resting on those above it: firsts and the pigeonhole, shapes, boards, moves, distances,
 -- the parity of test 9, tests 1 to 4. Assumes nothing.
 pub mod Firsts
+pub mod Digits
 pub mod TestsInOrder
 pub mod Onto
 pub mod Sides

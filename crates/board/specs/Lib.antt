@@ -8,5 +8,6 @@ pub mod Lists
 pub mod Distance
 pub mod Parity
 pub mod Faults
+pub mod Digits
 pub mod Held
 pub mod Change

@@ -5,20 +5,21 @@ use crate::faults::first_holding;
 ghost use mathlib.Core.Path.{_≡_};
 ghost use Rattle.board.specs.Shape.{cells, GoodShape};
 ghost use Prim.Native.Nat.{_<_};
-ghost use Rattle.board.specs.Board.{at, IsBoard};
+ghost use Rattle.board.specs.Board.{IsBoard};
+ghost use Rattle.board.specs.Digits.{digit};
 ghost use Rattle.board.specs.Held.{Taken};
 
-// The board, held.
+// The board, held: packed from its last cell to its first.
 pub fn hold(shape: Shape, board: &[u8]) -> Position
     requires { ⌜ GoodShape shape ⌝ }
     requires { ⌜ IsBoard shape (now board) ⌝ }
     ensures { λ r. ⌜ Taken shape (now (board .entry)) r ⌝ }
 {
-    let mut cells = [0u8; 16];
-    let mut i = 0;
-    while i < board.len() {
-        cells[i] = board[i];
-        i += 1;
+    let mut cells = 0;
+    let mut i = board.len();
+    while 0 < i {
+        i -= 1;
+        cells = 16 * cells + wide(board[i]);
     }
     let empty = first_holding(board, 0, board.len());
     Position { cells, empty }
@@ -35,7 +36,14 @@ pub fn cell_count(shape: Shape) -> usize
 // What stands in cell i, as a number that can be an index.
 pub fn number_at(p: Position, i: usize) -> usize
     requires { ⌜ i < 16 ⌝ }
-    ensures { λ r. ⌜ r ≡ at (p .cells) i ⌝ }
+    ensures { λ r. ⌜ r ≡ digit (p .cells) i ⌝ }
 {
-    p.cells[i] as usize
+    ((p.cells >> (4 * i)) % 16) as usize
+}
+
+// A byte as a number of 64 bits.
+fn wide(x: u8) -> u64
+    ensures { λ r. ⌜ r ≡ x ⌝ }
+{
+    x as u64
 }

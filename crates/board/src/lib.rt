@@ -18,9 +18,9 @@ pub struct Shape {
     pub height: usize,
 }
 
-// A board by value: the first n cells are the board's, and `empty` is the cell that holds 0.
+// A board by value in one number: cell i in the four bits from 4i on, and `empty` is the cell that holds 0.
 pub struct Position {
-    pub cells: [u8; 16],
+    pub cells: u64,
     pub empty: usize,
 }
 

@@ -54,9 +54,8 @@ fn slid(p: Position, t: usize) -> Position
     ensures { λ r. ⌜ Slid p t r ⌝ }
 {
     let e = p.empty;
-    let mut cells = p.cells;
-    cells[e] = cells[t];
-    cells[t] = 0;
+    let tray = (p.cells >> (4 * t)) % 16;
+    let cells = p.cells - (tray << (4 * t)) + (tray << (4 * e));
     Position { cells, empty: t }
 }
 

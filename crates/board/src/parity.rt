@@ -2,11 +2,12 @@
 use crate::Position;
 use crate::Shape;
 use crate::held::cell_count;
+use crate::held::number_at;
 ghost use mathlib.Core.Path.{_≡_};
 ghost use Prim.Native.Nat.{_+_, _<_, _≤_};
 ghost use mathlib.Core.Bool.{cond};
 ghost use lib.Dec.{ltb};
-ghost use lib.ListN.{take};
+ghost use Rattle.board.specs.Digits.{digits};
 ghost use Rattle.board.specs.Parity.{isOdd, LowerAfter};
 ghost use Rattle.board.specs.Held.{held, Holds};
 
@@ -33,19 +34,19 @@ pub fn is_odd(shape: Shape, p: Position) -> bool
 fn lower_after(p: Position, i: usize, n: usize) -> usize
     requires { ⌜ i < n ⌝ }
     requires { ⌜ n ≤ 16 ⌝ }
-    ensures { λ r. ⌜ LowerAfter (take n (p .cells)) i r ⌝ }
+    ensures { λ r. ⌜ LowerAfter (digits n (p .cells)) i r ⌝ }
 {
-    let x = p.cells[i];
+    let x = number_at(p, i);
     let mut count = 0;
     let mut j = i + 1;
     while j < n {
-        count += one_if_less(p.cells[j], x);
+        count += one_if_less(number_at(p, j), x);
         j += 1;
     }
     count
 }
 
-fn one_if_less(a: u8, x: u8) -> usize
+fn one_if_less(a: usize, x: usize) -> usize
     ensures { λ r. ⌜ r ≡ cond (ltb a x) 1 0 ⌝ }
 {
     if a < x { 1 } else { 0 }

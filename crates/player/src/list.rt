@@ -3,6 +3,7 @@ use crate::PlayRefusal;
 use board::Position;
 use board::Shape;
 use board::held::cell_count;
+use board::held::number_at;
 use board::moves::after;
 use board::moves::changed;
 use board::moves::legal;
@@ -69,7 +70,7 @@ pub fn put(shape: Shape, p: Position, out: &mut [u8])
     let n = cell_count(shape);
     let mut i = 0;
     while i < n {
-        out[i] = p.cells[i];
+        out[i] = number_at(p, i) as u8;
         i += 1;
     }
 }

@@ -6,17 +6,19 @@ use mathlib.Core.List.{List, [], _∷_}
 use native.Mathlib.Omega.{arith}
 use native.Mathlib.Nat.{add-zero, zero-add}
 use native.Mathlib.Numerals.{add-one}
-use lib.ListN.{length, getD, take, drop, drop-of-length-le}
-use lib.Seq.{getD-take, drop-cons}
+use lib.ListN.{length, getD, drop, drop-of-length-le}
+use lib.Seq.{drop-cons}
 use denote.Ref.{now}
 use Rattle.board.specs.declared.Shape.{Shape}
 use Rattle.board.specs.declared.Position.{Position}
 use Rattle.board.specs.Shape.{cells, GoodShape}
 use Rattle.board.specs.Board.{at, IsBoard}
 use Rattle.board.specs.Distance.{trayDistance, distanceFrom, distance, NearTable}
+use Rattle.board.specs.Digits.{digits, digit}
 use Rattle.board.specs.Held.{held, Holds}
 use Rattle.board.proofs.theory.Sides.{cells-within}
 use Rattle.board.proofs.theory.Distances.{distance-at-most-90}
+use Rattle.board.proofs.theory.Digits.{at-digits}
 use Rattle.board.proofs.theory.Changes.{looked-up}
 use Rattle.board.proofs.distance.distance.Statement.{statement}
 use Rattle.board.proofs.distance.distance.Tie as tie
@@ -73,28 +75,28 @@ unfolding sumFrom
 all-summed f b n sum i done past long =
     sym (add-zero sum) ∙ ap (λ (l : List ℕ). sum + sumFrom f i l) (sym (drop-of-length-le b {i = i} (omega arith))) ∙ done .whole
 
-module _ (s : Shape) (p : Position) (n i v : ℕ) (holds : Holds s p) (count : n ≡ cells s) (below : i < n) (is : v ≡ at (p .cells) i) where
+module _ (s : Shape) (p : Position) (n i v : ℕ) (holds : Holds s p) (count : n ≡ cells s) (below : i < n) (is : v ≡ digit (p .cells) i) where
   -- what was read stands in the board
-  in-board : v ≡ at (take n (p .cells)) i
-  in-board = is ∙ sym (getD-take n (p .cells) i 0 below)
+  in-board : v ≡ at (digits n (p .cells)) i
+  in-board = is ∙ sym (at-digits n (p .cells) i below)
 
   small-place : 16 * i + v < 256
   small-place =
-      let board : v ≡ at (held s p) i = is ∙ sym (getD-take (cells s) (p .cells) i 0 (omega arith)) in
+      let board : v ≡ at (held s p) i = is ∙ sym (at-digits (cells s) (p .cells) i (omega arith)) in
       omega (arith, cells-within (holds .shape), holds .board .small i (omega arith))
 
 -- the board's cells, as many as were counted, and what their sum is
 module _ (s : Shape) (p : Position) (n : ℕ) (near : List ℕ) (holds : Holds s p) (count : n ≡ cells s) (table : NearTable s near) where
-  all-counted : n ≡ length (take n (p .cells))
-  all-counted = count ∙ sym (holds .board .long) ∙ ap (λ (k : ℕ). length (take k (p .cells))) (sym count)
+  all-counted : n ≡ length (digits n (p .cells))
+  all-counted = count ∙ sym (holds .board .long) ∙ ap (λ (k : ℕ). length (digits k (p .cells))) (sym count)
 
-  sum-is : sumFrom (lookedUp near) 0 (take n (p .cells)) ≡ distance s (held s p)
+  sum-is : sumFrom (lookedUp near) 0 (digits n (p .cells)) ≡ distance s (held s p)
   sum-is =
-      ap (λ (k : ℕ). sumFrom (lookedUp near) 0 (take k (p .cells))) count
+      ap (λ (k : ℕ). sumFrom (lookedUp near) 0 (digits k (p .cells))) count
       ∙ total s (held s p) near (holds .shape) (holds .board) table
 
 abbrev Inv-loop : tie.InvT-loop
-Inv-loop p near n sum₀ i₀ sum i = Summed (lookedUp near) (take n (p .cells)) n sum i
+Inv-loop p near n sum₀ i₀ sum i = Summed (lookedUp near) (digits n (p .cells)) n sum i
 
 abbrev μ-loop : tie.MeasureT-loop
 μ-loop p near n sum₀ i₀ sum i = n - i

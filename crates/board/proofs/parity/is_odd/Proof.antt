@@ -7,17 +7,19 @@ use native.Mathlib.Omega.{arith}
 use native.Mathlib.Nat.{add-zero}
 use native.Mathlib.Numerals.{add-one}
 use lib.Dec.{eqb}
-use lib.ListN.{length, getD, take, drop, drop-of-length-le}
-use lib.Seq.{drop-cons, length-take-le}
+use lib.ListN.{length, getD, drop, drop-of-length-le}
+use lib.Seq.{drop-cons}
 use borrow.Author.Needs.{needs}
 use Rattle.board.specs.declared.Shape.{Shape}
 use Rattle.board.specs.declared.Position.{Position}
 use Rattle.board.specs.Shape.{cells}
 use Rattle.board.specs.Board.{emptyCell}
+use Rattle.board.specs.Digits.{digits}
 use Rattle.board.specs.Parity.{lower, inversions, paritySum, isOdd, LowerAfter}
 use Rattle.board.specs.Held.{held, Holds}
 use Rattle.board.proofs.theory.Sides.{side-within, cells-within, cell-row, cell-column}
 use Rattle.board.proofs.theory.Boards.{empty-inside}
+use Rattle.board.proofs.theory.Digits.{length-digits}
 use Rattle.board.proofs.parity.is_odd.Statement.{statement}
 use Rattle.board.proofs.parity.is_odd.Tie as tie
 
@@ -48,16 +50,16 @@ unfolding inversions
 all-counted b n sum i s past =
     sym (add-zero sum) ∙ ap (λ (k : List ℕ). sum + inversions k) (sym (drop-of-length-le b {i = i} (omega (arith, s .long)))) ∙ s .whole
 
-answered : (s : Shape) (p : Position) (n sum i : ℕ) → Holds s p → n ≡ cells s → Summed (take n (p .cells)) n sum i → n ≤ i → eqb ((sum + p .empty / s .width + p .empty % s .width) % 2) 1 ≡ isOdd s (held s p)
+answered : (s : Shape) (p : Position) (n sum i : ℕ) → Holds s p → n ≡ cells s → Summed (digits n (p .cells)) n sum i → n ≤ i → eqb ((sum + p .empty / s .width + p .empty % s .width) % 2) 1 ≡ isOdd s (held s p)
 unfolding isOdd paritySum
 answered s p n sum i holds count summed past =
     ap (λ (k : ℕ). eqb (k % 2) 1)
     (ap (λ (k : ℕ). k + p .empty / s .width + p .empty % s .width)
-    (all-counted (take n (p .cells)) n sum i summed past ∙ ap (λ (k : ℕ). inversions (take k (p .cells))) count)
+    (all-counted (digits n (p .cells)) n sum i summed past ∙ ap (λ (k : ℕ). inversions (digits k (p .cells))) count)
     ∙ ap (λ (e : ℕ). inversions (held s p) + e / s .width + e % s .width) (holds .empty))
 
 abbrev Inv-loop : tie.InvT-loop
-Inv-loop shape p n sum₀ i₀ sum i = Summed (take n (p .cells)) n sum i
+Inv-loop shape p n sum₀ i₀ sum i = Summed (digits n (p .cells)) n sum i
 
 abbrev μ-loop : tie.MeasureT-loop
 μ-loop shape p n sum₀ i₀ sum i = n - i
@@ -85,9 +87,8 @@ cell-count-requires c κs = c .pre .shape
 loop-holds : tie.Need-loop-holds Inv-loop μ-loop
 loop-holds c =
     let start = c .before in
-    let sixteen : length (start .args .p .cells) ≡ 16 = search needs in
     record {
-      long = length-take-le (c .cell-count .result) (start .args .p .cells) (omega (arith, cells-within (start .pre .shape)));
+      long = length-digits (c .cell-count .result) (start .args .p .cells);
       within = omega arith;
       most = omega arith;
       whole = omega arith;

@@ -8,10 +8,12 @@ use native.Mathlib.Omega.{arith}
 use native.Mathlib.Nat.{add-zero}
 use native.Mathlib.Numerals.{add-one}
 use lib.Dec.{ltb}
-use lib.ListN.{length, getD, take, drop, drop-of-length-le}
-use lib.Seq.{drop-cons, getD-take, length-take-le}
+use lib.ListN.{length, getD, drop, drop-of-length-le}
+use lib.Seq.{drop-cons}
 use borrow.Author.Needs.{needs}
+use Rattle.board.specs.Digits.{digits}
 use Rattle.board.specs.Parity.{lower, LowerAfter}
+use Rattle.board.proofs.theory.Digits.{length-digits, at-digits}
 use Rattle.board.proofs.parity.lower_after.Statement.{statement}
 use Rattle.board.proofs.parity.lower_after.Tie as tie
 
@@ -55,13 +57,13 @@ finished b n i x count j c past small is =
     }
 
 abbrev Inv-loop : tie.InvT-loop
-Inv-loop i n p x count₀ j₀ count j = Counted (take n (p .cells)) n i x count j
+Inv-loop p i n x count₀ j₀ count j = Counted (digits n (p .cells)) n i x count j
 
 abbrev μ-loop : tie.MeasureT-loop
-μ-loop i n p x count₀ j₀ count j = n - j
+μ-loop p i n x count₀ j₀ count j = n - j
 
-element-copy-out-x : tie.Need-element-copy-out-x Inv-loop μ-loop
-element-copy-out-x c = omega arith
+number-at-requires : tie.Need-number-at-requires Inv-loop μ-loop
+number-at-requires c κs = omega arith
 
 add-j : tie.Need-add-j Inv-loop μ-loop
 add-j c = omega arith
@@ -69,26 +71,24 @@ add-j c = omega arith
 loop-holds : tie.Need-loop-holds Inv-loop μ-loop
 loop-holds c =
     let start = c .before in
-    let sixteen : length (start .args .t1 .cells) ≡ 16 = search needs in
     record {
-      long = length-take-le (start .args .n) (start .args .t1 .cells) (omega arith);
+      long = length-digits (start .args .n) (start .args .p .cells);
       within = omega arith;
       most = omega arith;
       whole = omega arith;
     }
 
-element-copy-out-one-if-less : tie.Need-element-copy-out-one-if-less Inv-loop μ-loop
-element-copy-out-one-if-less c = omega arith
+number-at-requires-2 : tie.Need-number-at-requires-2 Inv-loop μ-loop
+number-at-requires-2 c κs = omega arith
 
 one-if-less-requires : tie.Need-one-if-less-requires Inv-loop μ-loop
 one-if-less-requires c κs = search needs
 
 add-count : tie.Need-add-count Inv-loop μ-loop
 add-count c =
-    let a = c .before .before .before .before .before .args in
-    let j = c .before .before .before .loop .j in
-    let few = at-most-one (ltb (getD (a .t1 .cells) j 0) (getD (a .t1 .cells) (a .i) 0)) (c .one-if-less .ensures) in
-    omega arith
+    let at-loop = c .before .before .before in
+    let few = at-most-one (ltb (c .before .number-at2 .result) (at-loop .before .number-at .result)) (c .one-if-less .ensures) in
+    omega (arith, at-loop .loop .inv .most, at-loop .loop .inv .within)
 
 add-j-2 : tie.Need-add-j-2 Inv-loop μ-loop
 add-j-2 c = omega arith
@@ -98,17 +98,21 @@ loop-less c = omega arith
 
 loop-again : tie.Need-loop-again Inv-loop μ-loop
 loop-again c =
-    let a = c .before .before .before .before .before .args in
-    let at-loop = c .before .before .before in
-    let below = c .before .before .loop-test .taken in
+    let read = c .before in
+    let test = read .before in
+    let at-loop = test .before in
+    let a = at-loop .before .before .args in
+    let below = test .loop-test .taken in
+    let cell = read .number-at2 .ensures ∙ sym (at-digits (a .n) (a .p .cells) (at-loop .loop .j) below) in
     one-more _ _ _ _ _ _ _ (at-loop .loop .inv) below
-    (rw (getD-take (a .n) (a .t1 .cells) (at-loop .loop .j) 0 below) (c .one-if-less .ensures))
+    (c .one-if-less .ensures ∙ ap (λ (v : ℕ). cond (ltb v (at-loop .before .number-at .result)) 1 0) cell)
 
 returns : tie.Need-returns Inv-loop μ-loop
 returns c =
-    let start = c .before .before .before in
+    let first = c .before .before in
+    let a = first .before .args in
     finished _ _ _ _ _ _ (c .before .loop .inv) (c .loop-test .left) (omega arith)
-    (sym (getD-take (start .args .n) (start .args .t1 .cells) (start .args .i) 0 (omega arith)))
+    (first .number-at .ensures ∙ sym (at-digits (a .n) (a .p .cells) (a .i) (omega arith)))
 
 pub lower-after-spec : {M : Type 1} → statement M
 lower-after-spec =
@@ -116,10 +120,10 @@ lower-after-spec =
     (tie.spec
     Inv-loop
     μ-loop
-    element-copy-out-x
+    number-at-requires
     add-j
     loop-holds
-    element-copy-out-one-if-less
+    number-at-requires-2
     one-if-less-requires
     add-count
     add-j-2

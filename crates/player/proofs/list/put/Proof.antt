@@ -6,12 +6,9 @@ use mathlib.Core.List.{List, _++_}
 use native.Mathlib.Omega.{arith}
 use native.Mathlib.Numerals.{add-one}
 use lib.ListN.{length, take, drop, set, getD, length-append, length-take, length-drop}
-use lib.Seq.{take-suc, drop-cons, append-snoc, set-at, length-take-le}
-use Rattle.board.specs.declared.Shape.{Shape}
-use Rattle.board.specs.declared.Position.{Position}
-use Rattle.board.specs.Shape.{cells}
-use Rattle.board.specs.Held.{Holds}
-use Rattle.board.proofs.Laws.{cells-within}
+use lib.Seq.{take-suc, take-all, drop-cons, append-snoc, set-at, length-take-le}
+use Rattle.board.specs.Digits.{digits}
+use Rattle.board.proofs.Laws.{cells-within, length-digits, at-digits}
 use Rattle.player.proofs.list.put.Statement.{statement}
 use Rattle.player.proofs.list.put.Tie as tie
 
@@ -30,13 +27,13 @@ module _ (l found out : List ℕ) (n i : ℕ) (putting : Putting l found out n i
   keeps-length : length out ≡ length found
   keeps-length = rw (putting .same) (simp (length-append, length-take, length-drop) (omega arith))
 
-  one-more : i < n → Putting l found (set out i (getD l i 0)) n (i + 1)
-  one-more below = record {
+  one-more : (v : ℕ) → v ≡ getD l i 0 → i < n → Putting l found (set out i v) n (i + 1)
+  one-more v is below = record {
     within = omega arith;
     cells-last = putting .cells-last;
     room = putting .room;
     same =
-        rw (putting .same, add-one)
+        rw (is, putting .same, add-one)
         (ap (λ rest. set (take i l ++ rest) i (getD l i 0)) (drop-cons found i 0 (omega arith))
         ∙ set-at (take i l) (getD found i 0) (drop (suc i) found) (getD l i 0) i (length-take-le i l (omega arith))
         ∙ sym (append-snoc (take i l) (getD l i 0) (drop (suc i) found))
@@ -46,14 +43,11 @@ module _ (l found out : List ℕ) (n i : ℕ) (putting : Putting l found out n i
   all-put : n ≤ i → out ≡ puts l found n
   all-put past = let last : i ≡ n = omega arith in putting .same ∙ ap (puts l found) last
 
-cells-in : (s : Shape) (p : Position) → Holds s p → cells s ≤ length (p .cells)
-cells-in s p holds = omega (arith, length-take (cells s) (p .cells), holds .board .long)
-
 abbrev Inv-loop : tie.InvT-loop
-Inv-loop found p n i₀ out i = Putting (p .cells) found out n i
+Inv-loop p found n i₀ out i = Putting (digits n (p .cells)) found out n i
 
 abbrev μ-loop : tie.MeasureT-loop
-μ-loop found p n i₀ out i = n - i
+μ-loop p found n i₀ out i = n - i
 
 cell-count-requires : tie.Need-cell-count-requires Inv-loop μ-loop
 cell-count-requires c κs = c .before .pre .0 .shape
@@ -63,15 +57,18 @@ loop-holds c =
     let start = c .before .before in
     record {
       within = omega arith;
-      cells-last = rw (c .cell-count .ensures) (cells-in _ _ (start .pre .0));
+      cells-last = omega (arith, length-digits (c .cell-count .result) (start .args .p .cells));
       room = rw (c .cell-count .ensures) (start .pre .1);
       same = refl;
     }
 
-element-copy-out-out : tie.Need-element-copy-out-out Inv-loop μ-loop
-element-copy-out-out c =
-    let at-loop = c .before in
-    omega (arith, cells-within (at-loop .before .before .before .pre .0 .shape))
+number-at-requires : tie.Need-number-at-requires Inv-loop μ-loop
+number-at-requires c κs =
+    let counted = c .before .before in
+    omega (arith, counted .cell-count .ensures, cells-within (counted .before .before .pre .0 .shape))
+
+cast-out : tie.Need-cast-out Inv-loop μ-loop
+cast-out c = omega (arith, c .number-at .ensures)
 
 slice-write-out : tie.Need-slice-write-out Inv-loop μ-loop
 slice-write-out c = omega (arith, keeps-length _ _ _ _ _ (c .before .before .loop .inv))
@@ -83,13 +80,26 @@ loop-less : tie.Need-loop-less Inv-loop μ-loop
 loop-less c = omega arith
 
 loop-again : tie.Need-loop-again Inv-loop μ-loop
-loop-again c = one-more _ _ _ _ _ (c .before .before .loop .inv) (c .before .loop-test .taken)
+loop-again c =
+    let test = c .before in
+    let counted = test .before .before in
+    let below = test .loop-test .taken in
+    let n = counted .cell-count .result in
+    let p = counted .before .before .args .p in
+    one-more _ _ _ _ _ (test .before .loop .inv) _ (c .number-at .ensures ∙ sym (at-digits n (p .cells) (test .before .loop .i) below)) below
 
 same-length : tie.Need-same-length Inv-loop μ-loop
 same-length c = keeps-length _ _ _ _ _ (c .before .loop .inv)
 
 returns : tie.Need-returns Inv-loop μ-loop
-returns c = rw (← (c .before .before .cell-count .ensures)) (all-put _ _ _ _ _ (c .before .loop .inv) (c .loop-test .left))
+returns c =
+    let counted = c .before .before in
+    let start = counted .before .before in
+    let n = counted .cell-count .result in
+    let l = digits n (start .args .p .cells) in
+    all-put _ _ _ _ _ (c .before .loop .inv) (c .loop-test .left)
+    ∙ ap (λ front. front ++ drop n (start .args .out .now)) (take-all n l (omega (arith, length-digits n (start .args .p .cells))))
+    ∙ ap (λ k. digits k (start .args .p .cells) ++ drop k (start .args .out .now)) (counted .cell-count .ensures)
 
 pub put-spec : {M : Type 1} → statement M
 put-spec =
@@ -99,7 +109,8 @@ put-spec =
     μ-loop
     cell-count-requires
     loop-holds
-    element-copy-out-out
+    number-at-requires
+    cast-out
     slice-write-out
     add-i
     loop-less
