@@ -3,7 +3,8 @@
 --     A    a ceiling below zero is never taken
 --     B1   which answer is given, exactly when; what each leaves in the buffers; that nothing in them matters
 --     B2   playing the plan reaches the goal, within the ceiling; the count of visits; what a spent budget means
---     B3   the plan's length against every legal list; what 10 and 9 mean; no number of the search comes near infinity
+--     B3   the plan's length against every legal list; what 10 and 9 mean; a ceiling that can't be met; no number of the search comes near
+--          infinity
 -- Proved in theory/, in Kept and Lending. Assumes nothing.
 use Prim.Native.Nat.{ℕ, _+_, _*_, _≤_, _<_}
 use mathlib.Core.Path.{_≡_, subst, sym, _∙_}
@@ -15,6 +16,7 @@ use lib.ListN.{length, take, drop}
 use Rattle.board.specs.Board.{IsBoard}
 use Rattle.board.specs.Lists.{Solves}
 use Rattle.board.specs.Tests.{FirstToHold, NoneHolds}
+use Rattle.board.specs.Distance.{distance}
 use Rattle.search.specs.Row.{infinity}
 use Rattle.search.specs.Space.{boards}
 use Rattle.search.specs.Search.{value, static, visit}
@@ -31,7 +33,7 @@ use Rattle.planner.specs.Answer.{number, refusalNumber, visits}
 use Rattle.planner.proofs.theory.Ways.{clear}
 use Rattle.planner.proofs.theory.Kept.{ceiling-below-zero, given-exactly, else-searched, untouched-is, late-is, PlanMade, plan-made}
 use Rattle.planner.proofs.theory.Kept.{visits-counted, Returned, no-plan-is, no-plan-means, OutOf, out-of-visits-is, budgeted}
-use Rattle.planner.proofs.theory.Kept.{spent-before-plan, spent-before-none, odd-board-means, static-most, capped}
+use Rattle.planner.proofs.theory.Kept.{spent-before-plan, spent-before-none, at-once, odd-board-means, static-most, capped}
 use Rattle.planner.proofs.theory.Small.{answered-small}
 use Rattle.planner.proofs.theory.Lending.{lending, SameAnswer, by-length}
 
@@ -131,6 +133,11 @@ module _ (c : Call) where
       → ceilingOf (c .ceiling) < length ds
   no-plan-within = no-plan-means c
 
+  -- a ceiling below the board's distance can't be met: 10 with one visit, at every budget
+  pub too-far-at-once : NoneHolds (tests c) → ceilingOf (c .ceiling) < distance (shapeOf c) (c .board)
+      → answered c .answer ≡ Refused (NoPlan 1)
+  too-far-at-once = at-once c
+
   -- refusal 9: none of any length does
   pub odd-board-never : answered c .answer ≡ Refused OddBoard → (ds : List ℕ) → Solves (shapeOf c) (c .board) ds → ⊥
   odd-board-never = odd-board-means c
@@ -144,7 +151,8 @@ module _ (c : Call) where
 
     -- a visit that is handed a stored value of at most 13,440 returns such a value or infinity
     pub values-small : (deeper g last stored bound left v left′ : ℕ) → deeper + g ≡ ceilingOf (c .ceiling) → stored ≤ 13440
-        → visit (boards (shapeOf c)) (static (boards (shapeOf c)) (weightOf c)) deeper g b last stored bound left ≡ value v left′
+        → visit (boards (shapeOf c)) (static (boards (shapeOf c)) (weightOf c)) (ceilingOf (c .ceiling)) deeper g b last stored bound left
+        ≡ value v left′
         → (v ≤ 13440) ⊎ (v ≡ infinity)
     values-small deeper g last stored bound left v left′ depth small run =
         let clean = clear c passed in

@@ -1,4 +1,4 @@
--- The boards worked by hand (document 01; those marked P), computed of the whole answer by one statement over a list of cases. The buffers
+-- The boards worked by hand (document 01, those marked P, with the rows that request E3 amends), computed of the whole answer by one statement over a list of cases. The buffers
 -- hold other numbers than 0 at first, and are long enough. What tells slips in the search apart is computed there. Assumes nothing.
 use Prim.Native.Nat.{ℕ}
 use mathlib.Core.Path.{_≡_, refl}
@@ -13,7 +13,7 @@ use Rattle.board.specs.Moves.{staysOn, leadsTo, legal, slide, after}
 use Rattle.board.specs.Distance.{trayDistance, distanceFrom, distance}
 use Rattle.board.specs.Parity.{lower, inversions, paritySum, isOdd}
 use Rattle.board.specs.Faults.{firstTooLarge, firstHolding, repeats, firstRepeat, faultTests}
-use Rattle.search.specs.Row.{better, bestOf, best, masked, second, mayGoOn, goesOn, handedDown, firstStored}
+use Rattle.search.specs.Row.{better, bestOf, best, masked, second, mayGoOn, goesOn, handedDown, firstStored, aboveCeiling}
 use Rattle.search.specs.Search.{static, takenUp, turn, work, unlessGoal, isSuccessor, firstEntry, firstRow, visit, search}
 use Rattle.planner.specs.declared.Refusal.the-variants.{Board, OddBoard, NoPlan, OutOfVisits}
 use Rattle.planner.specs.declared.Answer.{Answer}
@@ -80,10 +80,12 @@ rows =
     ∷ refuses 2 (1 ∷ 0 ∷ 2 ∷ 3 ∷ []) 1 1 (Refused (OutOfVisits 1))
     ∷ refuses 2 (1 ∷ 0 ∷ 2 ∷ 3 ∷ []) 0 1 (Refused (NoPlan 1))
     ∷ plans 2 (3 ∷ 2 ∷ 1 ∷ 0 ∷ []) 6 7 (up ∷ left ∷ down ∷ right ∷ up ∷ left ∷ []) 7
-    ∷ refuses 2 (3 ∷ 2 ∷ 1 ∷ 0 ∷ []) 5 11 (Refused (NoPlan 11))
+    ∷ refuses 2 (3 ∷ 2 ∷ 1 ∷ 0 ∷ []) 5 11 (Refused (NoPlan 1))
+    ∷ refuses 2 (3 ∷ 2 ∷ 1 ∷ 0 ∷ []) 5 10 (Refused (NoPlan 1))
     ∷ plans 2 (0 ∷ 3 ∷ 1 ∷ 2 ∷ []) 4 5 (down ∷ right ∷ up ∷ left ∷ []) 5
-    ∷ refuses 2 (0 ∷ 3 ∷ 1 ∷ 2 ∷ []) 3 7 (Refused (NoPlan 7))
-    ∷ refuses 3 (0 ∷ 2 ∷ 1 ∷ 3 ∷ 5 ∷ 4 ∷ []) 2 8 (Refused (NoPlan 8))
+    ∷ refuses 2 (0 ∷ 3 ∷ 1 ∷ 2 ∷ []) 3 7 (Refused (NoPlan 1))
+    ∷ refuses 3 (0 ∷ 2 ∷ 1 ∷ 3 ∷ 5 ∷ 4 ∷ []) 2 8 (Refused (NoPlan 1))
+    ∷ refuses 3 (0 ∷ 2 ∷ 1 ∷ 3 ∷ 5 ∷ 4 ∷ []) 2 7 (Refused (NoPlan 1))
     ∷ refuses 2 (0 ∷ 2 ∷ 1 ∷ 3 ∷ []) 6 9 (Refused OddBoard)
     ∷ refuses 2 (0 ∷ 1 ∷ 1 ∷ 4 ∷ []) 6 9 (Refused (Board (TooLarge 3)))
     ∷ refuses 2 (0 ∷ 1 ∷ 1 ∷ 3 ∷ []) 6 9 (Refused (Board (Repeated 2)))
@@ -92,6 +94,6 @@ rows =
 pub worked : map seen rows ≡ map expected rows
 unfolding seen expected plans refuses rows firstOf firstRefusal under emptyCell isGoal staysOn leadsTo legal slide after trayDistance
     distanceFrom distance lower inversions paritySum isOdd firstTooLarge firstHolding repeats firstRepeat faultTests better bestOf best masked second
-    mayGoOn goesOn handedDown firstStored static takenUp turn work unlessGoal isSuccessor firstEntry firstRow visit search badCeiling
+    mayGoOn goesOn handedDown firstStored aboveCeiling static takenUp turn work unlessGoal isSuccessor firstEntry firstRow visit search badCeiling
     ceilingOf badBudget badWeight limitTests shortBuffer lastTests tests searched concluded afterTests answered
 worked = refl

@@ -1,5 +1,6 @@
 -- The search over any space, each file on those above it: rows, laws and walks, the static value, the shape of a claim, then what an
--- answer says, what it leaves of the budget and how large its numbers get. `Theory` has the final statements.
+-- answer says, what it leaves of the budget, how large its numbers get and where it ends at once. `Theory` has the final
+-- statements.
 pub mod Rows
 pub mod Laws
 pub mod Walks
@@ -12,4 +13,5 @@ pub mod Visits
 pub mod Budget
 pub mod Again
 pub mod Limits
+pub mod Above
 pub mod Theory

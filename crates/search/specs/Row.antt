@@ -60,3 +60,7 @@ takesBack last m = eqb (last + m) 3
 -- a successor's first F: its own f, except that where the visited position has f < F, the larger of that F and its own f
 unfoldable pub firstStored : ℕ → ℕ → ℕ → ℕ
 firstStored f stored own = cond (ltb f stored) (max stored own) own
+
+-- the g moves made and the distance h are together above the ceiling, so that no way on is within it
+unfoldable pub aboveCeiling : ℕ → ℕ → ℕ → Bool
+aboveCeiling ceiling g h = ltb ceiling (g + h)

@@ -50,7 +50,7 @@ Open job b r = (m : ℕ) → entry r m < infinity → T (legal (job .shape) b m)
 -- the search's visit to a board at depth g, and its work on a row, in the job's space
 abbrev pub visited : Job → List ℕ → ℕ → ℕ → ℕ → ℕ → ℕ → Outcome
 visited job b last g stored bound left =
-    visit (boards (job .shape)) (static (boards (job .shape)) (job .weight)) (job .ceiling - g) g b last stored bound left
+    visit (boards (job .shape)) (static (boards (job .shape)) (job .weight)) (job .ceiling) (job .ceiling - g) g b last stored bound left
 
 abbrev pub worked : Job → List ℕ → ℕ → ℕ → List ℕ → ℕ → Outcome
 worked job b g bound r left =

@@ -1,12 +1,12 @@
 -- The search (document 01, "The search"): a visit to a position, and the work through its successors, which call each other.
--- Stated over a space and a static value. Visits are counted down from the budget. Assumes nothing.
+-- Stated over a space, a static value and a ceiling. Visits are counted down from the budget. Assumes nothing.
 use Prim.Native.Nat.{ℕ, zero, suc, _+_, _*_}
 use mathlib.Core.Bool.{Bool, true, false, cond, not, _&&_}
 use mathlib.Core.List.{List, [], _∷_}
 use lib.ListN.{set}
 use Rattle.search.specs.declared.Weight.{Weight}
 use Rattle.search.specs.Space.{Space}
-use Rattle.search.specs.Row.{infinity, best, goesOn, handedDown, takesBack, firstStored}
+use Rattle.search.specs.Row.{infinity, best, goesOn, handedDown, takesBack, firstStored, aboveCeiling}
 
 -- how a visit ends: at the goal, with the moves to it; with the F that it returns; or for want of a visit. Each but the last
 -- says how many visits are left
@@ -42,15 +42,19 @@ unfoldable pub unlessGoal : Bool → ℕ → (ℕ → Outcome) → Outcome
 unlessGoal true left goOn = found [] left
 unlessGoal false left goOn = goOn left
 
-module _ (S : Space) (f : ℕ → S .State → ℕ) where
+module _ (S : Space) (f : ℕ → S .State → ℕ) (ceiling : ℕ) where
   -- the moves that make successors: legal, and not the one that takes back the last
   unfoldable pub isSuccessor : S .State → ℕ → ℕ → Bool
   isSuccessor s last m = S .may s m && not (takesBack last m)
 
-  -- the first F of a move of a position at depth g with the stored value F
+  -- the first F of a move of a position at depth g with the stored value F. A successor whose own g + h is above the ceiling has
+  -- infinity, whatever it would inherit
   unfoldable pub firstEntry : ℕ → S .State → ℕ → ℕ → ℕ → ℕ
   firstEntry g s last stored m =
-      cond (isSuccessor s last m) (firstStored (f g s) stored (f (suc g) (S .makes s m))) infinity
+      let t = S .makes s m in
+      cond (isSuccessor s last m)
+      (cond (aboveCeiling ceiling (suc g) (S .dist t)) infinity (firstStored (f g s) stored (f (suc g) t)))
+      infinity
 
   unfoldable pub firstRow : ℕ → S .State → ℕ → ℕ → List ℕ
   firstRow g s last stored =
@@ -72,5 +76,5 @@ module _ (S : Space) (f : ℕ → S .State → ℕ) where
       (suc left′) bound (firstRow g s last stored) left′)
 
   -- the whole search: the start is visited with F = f and an infinite bound
-  unfoldable pub search : ℕ → S .State → ℕ → Outcome
-  search ceiling s budget = visit ceiling 0 s 4 (f 0 s) infinity budget
+  unfoldable pub search : S .State → ℕ → Outcome
+  search s budget = visit ceiling 0 s 4 (f 0 s) infinity budget

@@ -5,7 +5,7 @@ ghost use mathlib.Core.Path.{_≡_};
 ghost use mathlib.Core.Bool.{not};
 ghost use mathlib.Core.List.{[], _∷_};
 ghost use Prim.Native.Nat.{_≤_, _<_, _+_, min};
-ghost use Rattle.search.specs.Row.{bestOf, mayGoOn, firstStored, takesBack};
+ghost use Rattle.search.specs.Row.{bestOf, mayGoOn, firstStored, aboveCeiling, takesBack};
 ghost use Rattle.search.specs.Row.{better as Row·better};
 ghost use Rattle.search.specs.Run.{Picks};
 
@@ -74,6 +74,14 @@ pub fn first_stored(f: u16, stored: u16, own: u16) -> u16
         return stored;
     }
     own
+}
+
+// The g moves made and the distance h are together above the ceiling: h is more than is left of it.
+pub fn above_ceiling(ceiling: usize, g: usize, h: usize) -> bool
+    requires { ⌜ g ≤ ceiling ⌝ }
+    ensures { λ r. ⌜ r ≡ aboveCeiling ceiling g h ⌝ }
+{
+    ceiling - g < h
 }
 
 // The move m takes back the move `last`.

@@ -8,6 +8,7 @@ use crate::Job;
 use crate::Out;
 use crate::Pick;
 use crate::row::INFINITY;
+use crate::row::above_ceiling;
 use crate::row::best_of;
 use crate::row::first_stored;
 use crate::row::lesser;
@@ -172,7 +173,7 @@ fn first_row(
     requires { ⌜ NearTable (job .shape) (now near) ⌝ }
     requires { ⌜ 4 * (g + 1) ≤ length (now table) ⌝ }
     ensures { λ _. ⌜ now (table .exit) ≡ putRow (now (table .entry)) g
-        (firstRow (boards (job .shape)) (static (boards (job .shape)) (job .weight)) g (held (job .shape) p) last stored) ⌝ }
+        (firstRow (boards (job .shape)) (static (boards (job .shape)) (job .weight)) (job .ceiling) g (held (job .shape) p) last stored) ⌝ }
 {
     let f = static_value(job, h, g);
     let at = 4 * g;
@@ -182,7 +183,7 @@ fn first_row(
     table[at + 3] = first_entry(job, p, h, last, g, f, stored, 3, near);
 }
 
-// The first stored value of a move: infinity where it makes no successor.
+// The first stored value of a move: infinity where it makes no successor, or one whose g + h is above the ceiling.
 fn first_entry(
     job: Job,
     p: Position,
@@ -199,7 +200,7 @@ fn first_entry(
     requires { ⌜ (last ≤ 4) × ((g < job .ceiling) × (m < 4)) ⌝ }
     requires { ⌜ f ≡ static (boards (job .shape)) (job .weight) g (held (job .shape) p) ⌝ }
     requires { ⌜ NearTable (job .shape) (now near) ⌝ }
-    ensures { λ r. ⌜ r ≡ firstEntry (boards (job .shape)) (static (boards (job .shape)) (job .weight))
+    ensures { λ r. ⌜ r ≡ firstEntry (boards (job .shape)) (static (boards (job .shape)) (job .weight)) (job .ceiling)
         g (held (job .shape) p) last stored m ⌝ }
 {
     if takes_back(last, m) {
@@ -207,8 +208,12 @@ fn first_entry(
     }
     if legal(job.shape, p, m) {
         let next = after(job.shape, p, m, near);
-        let own = static_value(job, changed(h, next.change), g + 1);
-        return first_stored(f, stored, own);
+        let deeper = g + 1;
+        let far = changed(h, next.change);
+        if above_ceiling(job.ceiling, deeper, far) {
+            return INFINITY;
+        }
+        return first_stored(f, stored, static_value(job, far, deeper));
     }
     INFINITY
 }

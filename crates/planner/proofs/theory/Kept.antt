@@ -15,6 +15,7 @@ use Rattle.board.specs.Shape.{GoodShape}
 use Rattle.board.specs.Board.{IsBoard, isGoal}
 use Rattle.board.specs.Lists.{Solves, endBoard}
 use Rattle.board.specs.Tests.{FirstToHold, here, later, NoneHolds, past}
+use Rattle.board.specs.Distance.{distance}
 use Rattle.board.specs.Parity.{isOdd}
 use Rattle.board.proofs.Laws.{isGoal-sound, isGoal-complete, list-board, board-of, odd-never-solved, distance-at-most-90}
 use Rattle.search.specs.Row.{infinity}
@@ -24,7 +25,7 @@ use Rattle.search.proofs.theory.Laws.{Laws, Reaches}
 use Rattle.search.proofs.theory.Fair.{Fair, static-fair}
 use Rattle.search.proofs.theory.Limits.{Capped}
 use Rattle.search.proofs.theory.Theory.{plan-reaches, plan-within, plan-close, value-beyond, value-infinite, plan-counts, value-counts}
-use Rattle.search.proofs.theory.Theory.{spent-plan, spent-value}
+use Rattle.search.proofs.theory.Theory.{spent-plan, spent-value, above-at-once}
 use Rattle.search.proofs.code.BoardSpace.{board-laws, passed, passes}
 use Rattle.planner.specs.declared.Plan.{Plan}
 use Rattle.planner.specs.declared.Limit.{Limit}
@@ -36,7 +37,7 @@ use Rattle.planner.specs.declared.Answer.the-variants.{Planned, Refused}
 use Rattle.planner.specs.Limits.{badCeiling, ceilingOf, limitTests, limitNumber}
 use Rattle.planner.specs.Answer.{Call, Left, shapeOf, weightOf, cleared, lastTests, tests, searched, untouched, concluded, answered}
 use Rattle.planner.specs.Answer.{called, refusalNumber, number, visits}
-use Rattle.planner.proofs.theory.Passing.{GoodWeight, weight-passes, ceiling-passes, Kept, limits-kept}
+use Rattle.planner.proofs.theory.Passing.{GoodWeight, weight-passes, ceiling-passes, budget-passes, Kept, limits-kept}
 use Rattle.planner.proofs.theory.Ways.{Clear, clear, Refusing, by-board, by-limit, by-last, refusing}
 use Rattle.planner.proofs.theory.Ways.{fault-number, limit-number, early-number}
 use Rattle.planner.proofs.theory.Ways.{refused-by, ran-to, Way, refused, ran, way, PlanFrom, TestRefused, NoPlanFrom, SpentFrom}
@@ -281,6 +282,18 @@ pub no-plan-means : (c : Call) (v : ℕ) → answered c .answer ≡ Refused (NoP
 no-plan-means c v e =
     let from : NoPlanFrom c v = made-from c e in
     value-none c (clear c (from .passed)) (from .returned) (from .left) (from .run)
+
+-- 10 with one visit where the board's distance is above the ceiling
+pub at-once : (c : Call) → NoneHolds (tests c) → ceilingOf (c .ceiling) < distance (shapeOf c) (c .board)
+    → answered c .answer ≡ Refused (NoPlan 1)
+unfolding concluded searched
+at-once c passed far =
+    let clean = clear c passed in
+    let some = budget-passes (c .budget) (clean .limits .budget-ok) .0 in
+    let one : c .budget - (c .budget - 1) ≡ 1 = omega arith in
+    ap (λ (l : Left). l .answer)
+    (ran-to c passed (above-at-once _ _ (laws c clean) _ (ceilingOf (c .ceiling)) (c .board) (clean .board) far (c .budget) some))
+    ∙ ap (λ (n : ℕ). Refused (NoPlan n)) one
 
 -- 11 exactly where no test holds and the search is spent
 pub record OutOf (c : Call) (v : ℕ) : Type 0 where

@@ -20,7 +20,9 @@ start-is : (job : Job) (b : List ℕ) (f budget : ℕ) → f ≡ static (boards 
     → visited job b 4 0 f infinity budget ≡ ofJob job b budget
 unfolding search
 start-is job b f budget e =
-    ap₂ (λ (deep x : ℕ). visit (boards (job .shape)) (static (boards (job .shape)) (job .weight)) deep 0 b 4 x infinity budget)
+    ap₂
+    (λ (deep x : ℕ).
+    visit (boards (job .shape)) (static (boards (job .shape)) (job .weight)) (job .ceiling) deep 0 b 4 x infinity budget)
     (sub-zero (job .ceiling)) e
 
 -- what the visit to the start leaves is what the search of the job leaves

@@ -178,14 +178,14 @@ module _ (job : Job) (b : List ℕ) (g bound : ℕ) (table₀ moves₀ : List �
       pub value-less : rest < left
       value-less =
           subst (Spends left) value-is
-          (visit-spends (boards (job .shape)) (static (boards (job .shape)) (job .weight)) (job .ceiling - suc g) (suc g)
+          (visit-spends (boards (job .shape)) (static (boards (job .shape)) (job .weight)) (job .ceiling) (job .ceiling - suc g) (suc g)
           (boards (job .shape) .makes b move) move (best row .value) (handedDown bound row) left)
 
       -- and returns a value past the bound that it was handed
       value-past : Past (handedDown bound row) v
       value-past =
           subst (ReturnsPast (handedDown bound row)) value-is
-          (visit-past (boards (job .shape)) (static (boards (job .shape)) (job .weight)) (job .ceiling - suc g) (suc g)
+          (visit-past (boards (job .shape)) (static (boards (job .shape)) (job .weight)) (job .ceiling) (job .ceiling - suc g) (suc g)
           (boards (job .shape) .makes b move) move (best row .value) (handedDown bound row) left)
 
       finite : entry row move < infinity

@@ -121,27 +121,27 @@ none-left left (found ms rest) o′ less = λ rest′ e. absurd (omega arith)
 none-left left (value v rest) o′ less = λ rest′ e. absurd (omega arith)
 none-left left spent o′ less = tt
 
-module _ (S : Space) (f : ℕ → S .State → ℕ) where
+module _ (S : Space) (f : ℕ → S .State → ℕ) (ceiling : ℕ) where
   pub visit-again : (deeper g : ℕ) (s : S .State) (last stored bound left left′ : ℕ)
-      → Again left (visit S f deeper g s last stored bound left) left′ (visit S f deeper g s last stored bound left′)
+      → Again left (visit S f ceiling deeper g s last stored bound left) left′ (visit S f ceiling deeper g s last stored bound left′)
   unfolding visit
   visit-again zero g s last stored bound zero left′ = tt
   visit-again (suc deeper) g s last stored bound zero left′ = tt
   visit-again zero g s last stored bound (suc left) zero =
-      none-left (suc left) (visit S f zero g s last stored bound (suc left)) spent (visit-spends S f zero g s last stored bound (suc left))
+      none-left (suc left) (visit S f ceiling zero g s last stored bound (suc left)) spent (visit-spends S f ceiling zero g s last stored bound (suc left))
   visit-again (suc deeper) g s last stored bound (suc left) zero =
-      none-left (suc left) (visit S f (suc deeper) g s last stored bound (suc left)) spent
-      (visit-spends S f (suc deeper) g s last stored bound (suc left))
+      none-left (suc left) (visit S f ceiling (suc deeper) g s last stored bound (suc left)) spent
+      (visit-spends S f ceiling (suc deeper) g s last stored bound (suc left))
   visit-again zero g s last stored bound (suc left) (suc left′) =
-      one-more left left′ (visit S f zero g s last stored bound (suc left)) (visit S f zero g s last stored bound (suc left′))
+      one-more left left′ (visit S f ceiling zero g s last stored bound (suc left)) (visit S f ceiling zero g s last stored bound (suc left′))
       (goal-again (S .atGoal s) left left′ (λ rest. value infinity rest) (λ rest′ e. ap (value infinity) (omega arith)))
   visit-again (suc deeper) g s last stored bound (suc left) (suc left′) =
-      one-more left left′ (visit S f (suc deeper) g s last stored bound (suc left))
-      (visit S f (suc deeper) g s last stored bound (suc left′))
+      one-more left left′ (visit S f ceiling (suc deeper) g s last stored bound (suc left))
+      (visit S f ceiling (suc deeper) g s last stored bound (suc left′))
       (goal-again (S .atGoal s) left left′
-      (λ rest. work (λ m stored′ bound′ rest′. visit S f deeper (suc g) (S .makes s m) m stored′ bound′ rest′)
-      (suc rest) bound (firstRow S f g s last stored) rest)
-      (work-again (λ m stored′ bound′ rest. visit S f deeper (suc g) (S .makes s m) m stored′ bound′ rest)
-      (λ m stored′ bound′ rest. visit-spends S f deeper (suc g) (S .makes s m) m stored′ bound′ rest) bound
+      (λ rest. work (λ m stored′ bound′ rest′. visit S f ceiling deeper (suc g) (S .makes s m) m stored′ bound′ rest′)
+      (suc rest) bound (firstRow S f ceiling g s last stored) rest)
+      (work-again (λ m stored′ bound′ rest. visit S f ceiling deeper (suc g) (S .makes s m) m stored′ bound′ rest)
+      (λ m stored′ bound′ rest. visit-spends S f ceiling deeper (suc g) (S .makes s m) m stored′ bound′ rest) bound
       (λ m stored′ bound′ rest rest′. visit-again deeper (suc g) (S .makes s m) m stored′ bound′ rest rest′)
-      (suc left) (suc left′) (firstRow S f g s last stored) left left′ (omega arith) (omega arith)))
+      (suc left) (suc left′) (firstRow S f ceiling g s last stored) left left′ (omega arith) (omega arith)))

@@ -67,17 +67,17 @@ work-past visitOf turns bound r left =
     (λ row rest i e. stops row bound e)
     (λ row rest i e. anything (visitOf (best row .step) (best row .value) (handedDown bound row) rest)) turns r left tt
 
-pub visit-past : (S : Space) (f : ℕ → S .State → ℕ) (deeper g : ℕ) (s : S .State) (last stored bound left : ℕ)
-    → ReturnsPast bound (visit S f deeper g s last stored bound left)
+pub visit-past : (S : Space) (f : ℕ → S .State → ℕ) (ceiling deeper g : ℕ) (s : S .State) (last stored bound left : ℕ)
+    → ReturnsPast bound (visit S f ceiling deeper g s last stored bound left)
 unfolding visit
-visit-past S f zero g s last stored bound zero = tt
-visit-past S f (suc deeper) g s last stored bound zero = tt
-visit-past S f zero g s last stored bound (suc left) =
+visit-past S f ceiling zero g s last stored bound zero = tt
+visit-past S f ceiling (suc deeper) g s last stored bound zero = tt
+visit-past S f ceiling zero g s last stored bound (suc left) =
     goal-ends (λ ms rest. Unit {0}) (λ v rest. Past bound v) (S .atGoal s) left _ (λ e. tt) (λ e. inr (omega arith))
-visit-past S f (suc deeper) g s last stored bound (suc left) =
+visit-past S f ceiling (suc deeper) g s last stored bound (suc left) =
     goal-ends (λ ms rest. Unit {0}) (λ v rest. Past bound v) (S .atGoal s) left _ (λ e. tt)
-    (λ e. work-past (λ m stored′ bound′ rest. visit S f deeper (suc g) (S .makes s m) m stored′ bound′ rest) (suc left) bound
-    (firstRow S f g s last stored) left)
+    (λ e. work-past (λ m stored′ bound′ rest. visit S f ceiling deeper (suc g) (S .makes s m) m stored′ bound′ rest) (suc left) bound
+    (firstRow S f ceiling g s last stored) left)
 
 -- ---- a row r whose best move returned v
 

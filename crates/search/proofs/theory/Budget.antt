@@ -23,9 +23,9 @@ work-spends visitOf each turns bound r left =
     (λ ms left″ k. omega arith) (λ v left″ k. omega arith) (each (best r′ .step) (best r′ .value) (handedDown bound r′) left′))
     turns r left (omega arith)
 
-module _ (S : Space) (f : ℕ → S .State → ℕ) where
+module _ (S : Space) (f : ℕ → S .State → ℕ) (ceiling : ℕ) where
   pub visit-spends : (deeper g : ℕ) (s : S .State) (last stored bound left : ℕ)
-      → Spends left (visit S f deeper g s last stored bound left)
+      → Spends left (visit S f ceiling deeper g s last stored bound left)
   unfolding visit
   visit-spends zero g s last stored bound zero = tt
   visit-spends (suc deeper) g s last stored bound zero = tt
@@ -33,6 +33,6 @@ module _ (S : Space) (f : ℕ → S .State → ℕ) where
       goal-ends (λ ms left′. left′ < suc left) (λ v left′. left′ < suc left) (S .atGoal s) left _ (λ e. omega arith) (λ e. omega arith)
   visit-spends (suc deeper) g s last stored bound (suc left) =
       goal-ends (λ ms left′. left′ < suc left) (λ v left′. left′ < suc left) (S .atGoal s) left _ (λ e. omega arith)
-      (λ e. work-spends (λ m stored′ bound′ left′. visit S f deeper (suc g) (S .makes s m) m stored′ bound′ left′)
+      (λ e. work-spends (λ m stored′ bound′ left′. visit S f ceiling deeper (suc g) (S .makes s m) m stored′ bound′ left′)
       (λ m stored′ bound′ left′. visit-spends deeper (suc g) (S .makes s m) m stored′ bound′ left′)
-      (suc left) bound (firstRow S f g s last stored) left)
+      (suc left) bound (firstRow S f ceiling g s last stored) left)

@@ -1,6 +1,6 @@
 -- What is asked of a static value, so that the search keeps its promise: `Good`, a stored value that no walk within the ceiling
--- disproves, and `Fair`, the four conditions. Then that f = q × g + p × h is fair. A search by another static value rests on
--- `Fair` alone. Rests on `Walks.antt`. Assumes nothing.
+-- disproves, and `Fair`, the four conditions. Then that any value is good where the ceiling can't be met, and that f = q × g + p × h
+-- is fair. A search by another static value rests on `Fair` alone. Rests on `Walks.antt`. Assumes nothing.
 use Prim.Native.Nat.{ℕ, _+_, _*_, _≤_, _<_}
 use native.Mathlib.Nat.{mul-le-mul-left, mul-le-mul-right}
 use native.Mathlib.Omega.{arith}
@@ -23,6 +23,10 @@ pub record Fair (S : Space) (I : S .State → Type 0) (w : Weight) (ceiling : �
   pub good : (g last : ℕ) (s : S .State) → I s → Good S w ceiling g last s (f g s)
 
 module _ (S : Space) (I : S .State → Type 0) (laws : Laws S I) (w : Weight) (ceiling : ℕ) where
+  -- where g + h is above the ceiling no walk is within it, so that every value is good, infinity too
+  pub above-good : (g last : ℕ) (s : S .State) (F : ℕ) → I s → ceiling < g + S .dist s → Good S w ceiling g last s F
+  above-good g last s F i above n walk h = absurd (omega (arith, walk-distance S I laws n last s i walk))
+
   pub static-fair : w .q ≤ w .p → w .p * ceiling < infinity → Fair S I w ceiling (static S w)
   unfolding static
   static-fair weight finite =

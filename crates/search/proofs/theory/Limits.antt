@@ -65,15 +65,16 @@ ReturnsWithin M = Ends (λ ms left. Unit {0}) (λ v left. Within M v)
 module _ (S : Space) (I : S .State → Type 0) (laws : Laws S I) (ceiling M : ℕ) (f : ℕ → S .State → ℕ)
     (capped : Capped S I ceiling M f) where
   module _ (g last : ℕ) (s : S .State) (F : ℕ) where
-    pub first-limited : I s → g < ceiling → Within M F → Limited S s M (firstRow S f g s last F)
+    pub first-limited : I s → g < ceiling → Within M F → Limited S s M (firstRow S f ceiling g s last F)
     first-limited i h small =
         record {
-          legal = first-legal S s I laws f g last F;
-          within = first-each S f I laws (λ m v. Within M v) g s last F successor (λ m none. inr refl);
+          legal = first-legal S s I laws f ceiling g last F;
+          within = first-each S f ceiling I laws (λ m v. Within M v) g s last F successor (λ m out. inr refl);
         }
       where
-        successor : (m : ℕ) → Steps S last s m → Within M (firstStored (f g s) F (f (suc g) (S .makes s m)))
-        successor m step =
+        successor : (m : ℕ) → Steps S last s m → suc g + S .dist (S .makes s m) ≤ ceiling
+            → Within M (firstStored (f g s) F (f (suc g) (S .makes s m)))
+        successor m step near =
             let own = capped .within (suc g) (S .makes s m) (laws .kept s m i (step .legal)) h in
             first-stored (Within M) (f g s) F (f (suc g) (S .makes s m)) own
             (max-within M F (f (suc g) (S .makes s m)) (capped .finite) small own)
@@ -83,7 +84,7 @@ module _ (S : Space) (I : S .State → Type 0) (laws : Laws S I) (ceiling M : �
         → ((m F′ B′ left : ℕ) → I (S .makes s m) → Within M F′
         → ReturnsWithin M (visitOf m F′ B′ left))
         → (turns left : ℕ)
-        → ReturnsWithin M (work visitOf turns B (firstRow S f g s last F) left)
+        → ReturnsWithin M (work visitOf turns B (firstRow S f ceiling g s last F) left)
     work-within B i h small visitOf each turns left =
         work-ends (λ ms left′. Unit {0}) (λ v left′. Within M v) (λ r left′. Limited S s M r) visitOf B
         (λ r left′ row stop. best-within S s M r row)
@@ -92,10 +93,10 @@ module _ (S : Space) (I : S .State → Type 0) (laws : Laws S I) (ceiling M : �
         (λ v left″ back. set-limited S s M r row (best r .step) v (best-finite r B on) back)
         (each (best r .step) (best r .value) (handedDown B r) left′
         (laws .kept s (best r .step) i (best-legal S s B r (row .legal) on)) (best-within S s M r row)))
-        turns (firstRow S f g s last F) left (first-limited i h small)
+        turns (firstRow S f ceiling g s last F) left (first-limited i h small)
 
   pub visit-within : (deeper g last : ℕ) (s : S .State) (F B left : ℕ) → I s → deeper + g ≡ ceiling → Within M F
-      → ReturnsWithin M (visit S f deeper g s last F B left)
+      → ReturnsWithin M (visit S f ceiling deeper g s last F B left)
   unfolding visit
   visit-within zero g last s F B zero i depth small = tt
   visit-within (suc deeper) g last s F B zero i depth small = tt
@@ -104,5 +105,5 @@ module _ (S : Space) (I : S .State → Type 0) (laws : Laws S I) (ceiling M : �
   visit-within (suc deeper) g last s F B (suc left) i depth small =
       goal-ends (λ ms left′. Unit {0}) (λ v left′. Within M v) (S .atGoal s) left _ (λ e. tt)
       (λ e. work-within g last s F B i (omega arith) small
-      (λ m F′ B′ left′. visit S f deeper (suc g) (S .makes s m) m F′ B′ left′)
+      (λ m F′ B′ left′. visit S f ceiling deeper (suc g) (S .makes s m) m F′ B′ left′)
       (λ m F′ B′ left′ i′ small′. visit-within deeper (suc g) m (S .makes s m) F′ B′ left′ i′ (omega arith) small′) (suc left) left)

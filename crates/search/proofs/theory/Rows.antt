@@ -177,15 +177,16 @@ first-stored P f stored own alone inherited = go (ltb f stored)
     go false = alone
 
 -- the row that a visit begins with
-module _ (S : Space) (f : ℕ → S .State → ℕ) (g : ℕ) (s : S .State) (last stored : ℕ) where
-  pub first-length : length (firstRow S f g s last stored) ≡ 4
+module _ (S : Space) (f : ℕ → S .State → ℕ) (ceiling g : ℕ) (s : S .State) (last stored : ℕ) where
+  pub first-length : length (firstRow S f ceiling g s last stored) ≡ 4
   unfolding firstRow
   first-length = refl
 
-  pub first-entry : (m : ℕ) → m < 4 → entry (firstRow S f g s last stored) m ≡ firstEntry S f g s last stored m
+  pub first-entry : (m : ℕ) → m < 4 → entry (firstRow S f ceiling g s last stored) m ≡ firstEntry S f ceiling g s last stored m
   unfolding firstRow
-  first-entry = each-move (λ m. entry (firstRow S f g s last stored) m ≡ firstEntry S f g s last stored m) refl refl refl refl
+  first-entry =
+      each-move (λ m. entry (firstRow S f ceiling g s last stored) m ≡ firstEntry S f ceiling g s last stored m) refl refl refl refl
 
   -- past the four moves it reads as infinity
-  pub first-beyond : (m : ℕ) → 4 ≤ m → entry (firstRow S f g s last stored) m ≡ infinity
-  first-beyond m h = List·getD-eq-default (firstRow S f g s last stored) infinity {n = m} (omega (arith, first-length))
+  pub first-beyond : (m : ℕ) → 4 ≤ m → entry (firstRow S f ceiling g s last stored) m ≡ infinity
+  first-beyond m h = List·getD-eq-default (firstRow S f ceiling g s last stored) infinity {n = m} (omega (arith, first-length))

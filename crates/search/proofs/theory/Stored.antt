@@ -12,7 +12,7 @@ use Rattle.search.specs.Row.{infinity, entry, firstStored}
 use Rattle.search.specs.Search.{firstRow}
 use Rattle.search.proofs.theory.Laws.{Laws}
 use Rattle.search.proofs.theory.Walks.{Steps}
-use Rattle.search.proofs.theory.Fair.{Good, Fair}
+use Rattle.search.proofs.theory.Fair.{Good, Fair, above-good}
 use Rattle.search.proofs.theory.Rows.{set-each, first-stored}
 use Rattle.search.proofs.theory.Successors.{Legal, first-each, first-legal, set-legal}
 
@@ -29,23 +29,25 @@ made-finite S I w ceiling f fair g h = omega (arith, mul-le-mul (fair .weight) h
 
 module _ (S : Space) (I : S .State → Type 0) (laws : Laws S I) (w : Weight) (ceiling : ℕ) (f : ℕ → S .State → ℕ)
     (fair : Fair S I w ceiling f) (g last : ℕ) (s : S .State) (F : ℕ) where
-  first-made : I s → g < ceiling → (m : ℕ) → w .q * suc g ≤ entry (firstRow S f g s last F) m
-  first-made i h = first-each S f I laws (λ m v. w .q * suc g ≤ v) g s last F successor (λ m none. omega (arith, finite))
+  first-made : I s → g < ceiling → (m : ℕ) → w .q * suc g ≤ entry (firstRow S f ceiling g s last F) m
+  first-made i h = first-each S f ceiling I laws (λ m v. w .q * suc g ≤ v) g s last F successor (λ m out. omega (arith, finite))
     where
       finite : w .q * suc g < infinity
       finite = made-finite S I w ceiling f fair (suc g) h
 
-      successor : (m : ℕ) → Steps S last s m → w .q * suc g ≤ firstStored (f g s) F (f (suc g) (S .makes s m))
-      successor m step =
+      successor : (m : ℕ) → Steps S last s m → suc g + S .dist (S .makes s m) ≤ ceiling
+          → w .q * suc g ≤ firstStored (f g s) F (f (suc g) (S .makes s m))
+      successor m step near =
           let own = fair .made (suc g) (S .makes s m) (laws .kept s m i (step .legal)) h in
           first-stored (λ v. w .q * suc g ≤ v) (f g s) F (f (suc g) (S .makes s m)) own (omega arith)
 
   -- a value that is inherited is good, since a walk from the successor is one from the visited position with a move more
   first-good : I s → Good S w ceiling g last s F → (m : ℕ) → Steps S last s m
-      → Good S w ceiling (suc g) m (S .makes s m) (entry (firstRow S f g s last F) m)
+      → Good S w ceiling (suc g) m (S .makes s m) (entry (firstRow S f ceiling g s last F) m)
   first-good i good =
-      first-each S f I laws (λ m v. Steps S last s m → Good S w ceiling (suc g) m (S .makes s m) v) g s last F
-      (λ m step again n walk h. successor m step n walk h) (λ m none step. absurd (none step))
+      first-each S f ceiling I laws (λ m v. Steps S last s m → Good S w ceiling (suc g) m (S .makes s m) v) g s last F
+      (λ m step near again n walk h. successor m step n walk h)
+      (λ m out step. above-good S I laws w ceiling (suc g) m (S .makes s m) infinity (laws .kept s m i (step .legal)) (out step))
     where
       successor : (m : ℕ) → Steps S last s m
           → Good S w ceiling (suc g) m (S .makes s m) (firstStored (f g s) F (f (suc g) (S .makes s m)))
@@ -55,9 +57,9 @@ module _ (S : Space) (I : S .State → Type 0) (laws : Laws S I) (w : Weight) (c
           let parent′ : F ≤ w .p * (suc g + n) = omega arith in
           first-stored (λ v. v ≤ w .p * (suc g + n)) (f g s) F (f (suc g) (S .makes s m)) own (omega arith)
 
-  pub first-sound : I s → g < ceiling → Sound S w ceiling g last s F (firstRow S f g s last F)
+  pub first-sound : I s → g < ceiling → Sound S w ceiling g last s F (firstRow S f ceiling g s last F)
   first-sound i h =
-      record { legal = first-legal S s I laws f g last F; made = first-made i h; good = first-good i }
+      record { legal = first-legal S s I laws f ceiling g last F; made = first-made i h; good = first-good i }
 
   pub set-sound : (r : List ℕ) (m v : ℕ) → Sound S w ceiling g last s F r → entry r m < infinity → w .q * suc g ≤ v
       → (Good S w ceiling g last s F → Steps S last s m → Good S w ceiling (suc g) m (S .makes s m) v)

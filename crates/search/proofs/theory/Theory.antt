@@ -1,9 +1,9 @@
--- What the search promises over any space with its laws, by any fair static value: demand 3, the count of visits, and how large
--- its numbers get. A rival is any legal list to the goal, of any length, that may take moves back. The promises come in this
--- order: of a plan, of a value, of the visits left, of a search that is spent, of the numbers. Rests on `Visits.antt`, `Budget.antt`,
--- `Again.antt` and `Limits.antt`. Assumes nothing.
-use Prim.Native.Nat.{ℕ, _+_, _*_, _-_, _≤_, _<_}
-use mathlib.Core.Path.{_≡_, subst}
+-- What the search promises over any space with its laws, by any fair static value: demand 3, the count of visits, how large its
+-- numbers get, and a ceiling that can't be met. A rival is any legal list to the goal, of any length, that may take moves back. The
+-- promises come in this order: of a plan, of a value, of the visits left, of a search that is spent, of the numbers, of a start that is
+-- too far. Rests on `Visits.antt`, `Budget.antt`, `Again.antt`, `Limits.antt` and `Above.antt`. Assumes nothing.
+use Prim.Native.Nat.{ℕ, zero, suc, _+_, _*_, _-_, _≤_, _<_}
+use mathlib.Core.Path.{_≡_, subst, ap, _∙_}
 use mathlib.Core.List.{List}
 use mathlib.Core.Logic.{_⊎_, inl, inr}
 use native.Mathlib.Nat.{mul-le-mul, mul-le-mul-left}
@@ -21,6 +21,7 @@ use Rattle.search.proofs.theory.Visits.{Planned, Returned, Visited, vis
 use Rattle.search.proofs.theory.Budget.{Spends, visit-spends}
 use Rattle.search.proofs.theory.Again.{Again, visit-again}
 use Rattle.search.proofs.theory.Limits.{Within, Capped, ReturnsWithin, first-limited, visit-within}
+use Rattle.search.proofs.theory.Above.{above-visit}
 
 module _ (S : Space) (I : S .State → Type 0) (laws : Laws S I) (w : Weight) (ceiling : ℕ) (f : ℕ → S .State → ℕ)
     (fair : Fair S I w ceiling f) (s : S .State) (i : I s) (budget : ℕ) where
@@ -92,15 +93,15 @@ module _ (S : Space) (I : S .State → Type 0) (laws : Laws S I) (w : Weight) (c
       go (inr h) = h
 
 -- an answer leaves fewer visits than the visit, or the search, was given: it counts itself. Over any space, by any static value
-module _ (S : Space) (f : ℕ → S .State → ℕ) where
+module _ (S : Space) (f : ℕ → S .State → ℕ) (ceiling : ℕ) where
   module _ (deeper g : ℕ) (s : S .State) (last stored bound left : ℕ) where
-    pub visit-plan-counts : {ms : List ℕ} {left′ : ℕ} → visit S f deeper g s last stored bound left ≡ found ms left′ → left′ < left
-    visit-plan-counts e = subst (Spends left) e (visit-spends S f deeper g s last stored bound left)
+    pub visit-plan-counts : {ms : List ℕ} {left′ : ℕ} → visit S f ceiling deeper g s last stored bound left ≡ found ms left′ → left′ < left
+    visit-plan-counts e = subst (Spends left) e (visit-spends S f ceiling deeper g s last stored bound left)
 
-    pub visit-value-counts : {v left′ : ℕ} → visit S f deeper g s last stored bound left ≡ value v left′ → left′ < left
-    visit-value-counts e = subst (Spends left) e (visit-spends S f deeper g s last stored bound left)
+    pub visit-value-counts : {v left′ : ℕ} → visit S f ceiling deeper g s last stored bound left ≡ value v left′ → left′ < left
+    visit-value-counts e = subst (Spends left) e (visit-spends S f ceiling deeper g s last stored bound left)
 
-  module _ (ceiling : ℕ) (s : S .State) (budget : ℕ) where
+  module _ (s : S .State) (budget : ℕ) where
     pub plan-counts : {ms : List ℕ} {left : ℕ} → search S f ceiling s budget ≡ found ms left → left < budget
     unfolding search
     plan-counts e = visit-plan-counts ceiling 0 s 4 (f 0 s) infinity budget e
@@ -114,7 +115,7 @@ module _ (S : Space) (f : ℕ → S .State → ℕ) (ceiling : ℕ) (s : S .Stat
     (out : search S f ceiling s budget ≡ spent) where
   again : Again budget′ (search S f ceiling s budget′) budget (search S f ceiling s budget)
   unfolding search
-  again = visit-again S f ceiling 0 s 4 (f 0 s) infinity budget′ budget
+  again = visit-again S f ceiling ceiling 0 s 4 (f 0 s) infinity budget′ budget
 
   pub spent-plan : {ms : List ℕ} {left : ℕ} → search S f ceiling s budget′ ≡ found ms left → budget < budget′ - left
   spent-plan {ms} {left} e = go (decLe (budget′ - left) budget)
@@ -145,10 +146,18 @@ module _ (S : Space) (f : ℕ → S .State → ℕ) (ceiling : ℕ) (s : S .Stat
 -- no number but infinity is above M, neither in the row that a visit begins with nor among the values that visits return
 module _ (S : Space) (I : S .State → Type 0) (laws : Laws S I) (ceiling M : ℕ) (f : ℕ → S .State → ℕ)
     (capped : Capped S I ceiling M f) (g last : ℕ) (s : S .State) (i : I s) (stored : ℕ) (small : Within M stored) where
-  pub first-within : g < ceiling → (m : ℕ) → Within M (entry (firstRow S f g s last stored) m)
+  pub first-within : g < ceiling → (m : ℕ) → Within M (entry (firstRow S f ceiling g s last stored) m)
   first-within h = first-limited S I laws ceiling M f capped g last s stored i h small .within
 
   pub value-within : (deeper bound left : ℕ) → deeper + g ≡ ceiling
-      → {v left′ : ℕ} → visit S f deeper g s last stored bound left ≡ value v left′ → Within M v
+      → {v left′ : ℕ} → visit S f ceiling deeper g s last stored bound left ≡ value v left′ → Within M v
   value-within deeper bound left depth e =
       subst (ReturnsWithin M) e (visit-within S I laws ceiling M f capped deeper g last s stored bound left i depth small)
+
+-- where the start's distance is above the ceiling, the search ends with infinity and has made one visit, at every budget
+pub above-at-once : (S : Space) (I : S .State → Type 0) → Laws S I → (f : ℕ → S .State → ℕ) (ceiling : ℕ) (s : S .State) → I s
+    → ceiling < S .dist s → (budget : ℕ) → 1 ≤ budget → search S f ceiling s budget ≡ value infinity (budget - 1)
+unfolding search
+above-at-once S I laws f ceiling s i above zero none = absurd (omega arith)
+above-at-once S I laws f ceiling s i above (suc left) some =
+    above-visit S I laws f ceiling 0 s i (omega arith) 4 (f 0 s) (omega arith) ceiling infinity left ∙ ap (value infinity) (omega arith)

@@ -129,7 +129,7 @@ module _ (S : Space) (I : S .State → Type 0) (laws : Laws S I) (w : Weight) (c
     work-visited : I s → g < ceiling → S .atGoal s ≡ false → (visitOf : ℕ → ℕ → ℕ → ℕ → Outcome)
         → ((m F′ B′ left : ℕ) → I (S .makes s m) → w .q * suc g ≤ F′ → w .q * suc g ≤ B′
         → Visited S w ceiling (suc g) m (S .makes s m) F′ B′ (visitOf m F′ B′ left))
-        → (turns left : ℕ) → Visited S w ceiling g last s F B (work visitOf turns B (firstRow S f g s last F) left)
+        → (turns left : ℕ) → Visited S w ceiling g last s F B (work visitOf turns B (firstRow S f ceiling g s last F) left)
     work-visited i h e visitOf each turns left =
         work-ends (λ ms left′. Planned S w ceiling g last s F B ms) (λ v left′. Returned S w ceiling g last s F B v)
         (λ r left′. Sound S w ceiling g last s F r) visitOf B
@@ -140,11 +140,11 @@ module _ (S : Space) (I : S .State → Type 0) (laws : Laws S I) (w : Weight) (c
         (each (best r .step) (best r .value) (handedDown B r) left′
         (laws .kept s (best r .step) i (best-legal S s B r (sound .legal) on))
         (best-made r sound) (omega (arith, best-made r sound, best-handed r B on))))
-        turns (firstRow S f g s last F) left (first-sound S I laws w ceiling f fair g last s F i h)
+        turns (firstRow S f ceiling g s last F) left (first-sound S I laws w ceiling f fair g last s F i h)
 
   -- `deeper` is what is left of the ceiling; both F and B cover the moves made
   pub visit-claim : (deeper g last : ℕ) (s : S .State) (F B left : ℕ) → I s → deeper + g ≡ ceiling → w .q * g ≤ F → w .q * g ≤ B
-      → Visited S w ceiling g last s F B (visit S f deeper g s last F B left)
+      → Visited S w ceiling g last s F B (visit S f ceiling deeper g s last F B left)
   unfolding visit
   visit-claim zero g last s F B zero i depth made bounded = tt
   visit-claim (suc deeper) g last s F B zero i depth made bounded = tt
@@ -155,6 +155,6 @@ module _ (S : Space) (I : S .State → Type 0) (laws : Laws S I) (w : Weight) (c
       goal-ends (λ ms left′. Planned S w ceiling g last s F B ms) (λ v left′. Returned S w ceiling g last s F B v)
       (S .atGoal s) left _ (at-goal g last s F B (omega arith) made bounded)
       (λ e. work-visited g last s F B i (omega arith) e
-      (λ m F′ B′ left′. visit S f deeper (suc g) (S .makes s m) m F′ B′ left′)
+      (λ m F′ B′ left′. visit S f ceiling deeper (suc g) (S .makes s m) m F′ B′ left′)
       (λ m F′ B′ left′ i′ made′ bounded′. visit-claim deeper (suc g) m (S .makes s m) F′ B′ left′ i′ (omega arith) made′ bounded′)
       (suc left) left)
