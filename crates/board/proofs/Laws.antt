@@ -40,7 +40,8 @@ pub use Rattle.board.proofs.theory.Distances.{tray-at-most-6, tray-home
 pub use Rattle.board.proofs.theory.Distances.{distance-from-cell, distance-from-end, goal-distance, distance-at-most-90}
 pub use Rattle.board.proofs.theory.Distances.{distance-0-goal, distance-0-iff-goal, move-distance}
 -- the change of distance by a move and along a list, and the distance kept beside a position
-pub use Rattle.board.proofs.theory.Changes.{looked-up, readBack, read-back, move-change, move-one-step, answered-change, list-distance}
+pub use Rattle.board.proofs.theory.Changes.{looked-up, readBack, read-back, move-change, move-one-step, answered-change}
+pub use Rattle.board.proofs.theory.Changes.{list-distance}
 pub use Rattle.board.proofs.theory.Keeping.{goal-by-distance, kept-most, kept-goal, leads-on, changed-distance, kept-on}
 -- a held board's cells as the digits of a number
 pub use Rattle.board.proofs.theory.Digits.{length-digits, at-digits}

@@ -1,5 +1,6 @@
--- The boards worked by hand (document 01, those marked P, with the rows that request E3 amends), computed of the whole answer by one statement over a list of cases. The buffers
--- hold other numbers than 0 at first, and are long enough. What tells slips in the search apart is computed there. Assumes nothing.
+-- The boards worked by hand (document 01, those marked P, with the rows that request E3 amends), computed of the whole answer by one
+-- statement over a list of cases. The buffers hold other numbers than 0 at first, and are long enough. What tells slips in the search
+-- apart is computed there. Assumes nothing.
 use Prim.Native.Nat.{ℕ}
 use mathlib.Core.Path.{_≡_, refl}
 use mathlib.Core.List.{List, [], _∷_, map, _++_}
@@ -93,7 +94,7 @@ rows =
 
 pub worked : map seen rows ≡ map expected rows
 unfolding seen expected plans refuses rows firstOf firstRefusal under emptyCell isGoal staysOn leadsTo legal slide after trayDistance
-    distanceFrom distance lower inversions paritySum isOdd firstTooLarge firstHolding repeats firstRepeat faultTests better bestOf best masked second
-    mayGoOn goesOn handedDown firstStored aboveCeiling static takenUp turn work unlessGoal isSuccessor firstEntry firstRow visit search badCeiling
-    ceilingOf badBudget badWeight limitTests shortBuffer lastTests tests searched concluded afterTests answered
+    distanceFrom distance lower inversions paritySum isOdd firstTooLarge firstHolding repeats firstRepeat faultTests better bestOf best
+    masked second mayGoOn goesOn handedDown firstStored aboveCeiling static takenUp turn work unlessGoal isSuccessor firstEntry firstRow
+    visit search badCeiling ceilingOf badBudget badWeight limitTests shortBuffer lastTests tests searched concluded afterTests answered
 worked = refl

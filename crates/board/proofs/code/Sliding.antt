@@ -105,7 +105,9 @@ module _ (s : Shape) (p : Position) (holds : Holds s p) where
         record {
           target = omega (arith, target-below);
           empty = omega arith;
-          room = subst (λ (x : ℕ). x < word) both (packed-word (set board (p .empty) (at board t)) stored (omega (arith, length-set board (p .empty) (at board t), long)));
+          room =
+              subst (λ (x : ℕ). x < word) both
+              (packed-word (set board (p .empty) (at board t)) stored (omega (arith, length-set board (p .empty) (at board t), long)));
         }
       where
         stored : Small (set board (p .empty) (at board t))

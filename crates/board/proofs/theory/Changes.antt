@@ -25,7 +25,8 @@ use Rattle.board.proofs.theory.OneApart.{OneApart}
 use Rattle.board.proofs.theory.Sides.{cells-within}
 use Rattle.board.proofs.theory.Boards.{empty-inside, empty-holds-0}
 use Rattle.board.proofs.theory.Swaps.{swapped}
-use Rattle.board.proofs.theory.Moving.{target, legal-step, target-inside, target-elsewhere, target-holds-tray, after-swaps, after-board}
+use Rattle.board.proofs.theory.Moving.{target, legal-step, target-inside, target-elsewhere, target-holds-tray}
+use Rattle.board.proofs.theory.Moving.{after-swaps, after-board}
 use Rattle.board.proofs.theory.Distances.{tray-between, step-between, distance-swapped}
 
 -- ---- the shape's table

@@ -8,8 +8,8 @@ use Prim.Native.Nat.{ℕ, zero, suc, _+_, _*_, _/_, _%_, _^_, _≤_, _<_}
 use mathlib.Core.Path.{_≡_, refl, sym, _∙_, ap, subst}
 use mathlib.Core.List.{List, [], _∷_}
 use native.Mathlib.Omega.{arith}
-use native.Mathlib.Nat.{pow-suc, mul-comm, mul-assoc, div-div-eq-div-mul, div-mul-le-self, mod-le, mul-le-mul-right, lt-of-lt-of-le, le-trans}
-use native.Mathlib.Nat.{pow-le-pow-right, zero-lt-suc}
+use native.Mathlib.Nat.{pow-suc, mul-comm, mul-assoc, div-div-eq-div-mul, div-mul-le-self, mod-le, mul-le-mul-right}
+use native.Mathlib.Nat.{lt-of-lt-of-le, le-trans, pow-le-pow-right, zero-lt-suc}
 use lib.ListN.{length, set}
 use lib.Pow.{pow-add, shl-exact}
 use Rattle.board.specs.Board.{at}

@@ -13,7 +13,8 @@ use Rattle.board.specs.Shape.{GoodShape}
 use Rattle.board.specs.Board.{IsBoard, emptyCell, isGoal}
 use Rattle.board.specs.Moves.{legal}
 use Rattle.board.specs.Distance.{distance}
-use Rattle.board.proofs.Laws.{OneApart, leads-by-step, step-number, after-board, back-legal, back-after, move-distance, goal-distance, isGoal-sound}
+use Rattle.board.proofs.Laws.{OneApart, leads-by-step, step-number, after-board, back-legal, back-after, move-distance}
+use Rattle.board.proofs.Laws.{goal-distance, isGoal-sound}
 use Rattle.search.specs.declared.Weight.{Weight}
 use Rattle.search.specs.Space.{boards}
 use Rattle.search.specs.Search.{static}

@@ -128,12 +128,14 @@ module _ (S : Space) (f : ℕ → S .State → ℕ) (ceiling : ℕ) where
   visit-again zero g s last stored bound zero left′ = tt
   visit-again (suc deeper) g s last stored bound zero left′ = tt
   visit-again zero g s last stored bound (suc left) zero =
-      none-left (suc left) (visit S f ceiling zero g s last stored bound (suc left)) spent (visit-spends S f ceiling zero g s last stored bound (suc left))
+      none-left (suc left) (visit S f ceiling zero g s last stored bound (suc left)) spent
+      (visit-spends S f ceiling zero g s last stored bound (suc left))
   visit-again (suc deeper) g s last stored bound (suc left) zero =
       none-left (suc left) (visit S f ceiling (suc deeper) g s last stored bound (suc left)) spent
       (visit-spends S f ceiling (suc deeper) g s last stored bound (suc left))
   visit-again zero g s last stored bound (suc left) (suc left′) =
-      one-more left left′ (visit S f ceiling zero g s last stored bound (suc left)) (visit S f ceiling zero g s last stored bound (suc left′))
+      one-more left left′ (visit S f ceiling zero g s last stored bound (suc left))
+      (visit S f ceiling zero g s last stored bound (suc left′))
       (goal-again (S .atGoal s) left left′ (λ rest. value infinity rest) (λ rest′ e. ap (value infinity) (omega arith)))
   visit-again (suc deeper) g s last stored bound (suc left) (suc left′) =
       one-more left left′ (visit S f ceiling (suc deeper) g s last stored bound (suc left))

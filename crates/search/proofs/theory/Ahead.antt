@@ -109,7 +109,8 @@ module _ (r : List ℕ) (finite : entry r (best r .step) < infinity) (v : ℕ) (
 
       not-below : min v (second r) ≤ best returned .value
       not-below =
-          omega (arith, best-entry returned, at-move (best returned .step) (best-move returned) (ℕ-discrete (best returned .step) (best r .step)))
+          let same = ℕ-discrete (best returned .step) (best r .step) in
+          omega (arith, best-entry returned, at-move (best returned .step) (best-move returned) same)
 
   module _ (bound : ℕ) (past : Past (handedDown bound r) v) where
     -- the second least stops the work: so does the least F, whichever it is

@@ -75,7 +75,8 @@ unfolding sumFrom
 all-summed f b n sum i done past long =
     sym (add-zero sum) ∙ ap (λ (l : List ℕ). sum + sumFrom f i l) (sym (drop-of-length-le b {i = i} (omega arith))) ∙ done .whole
 
-module _ (s : Shape) (p : Position) (n i v : ℕ) (holds : Holds s p) (count : n ≡ cells s) (below : i < n) (is : v ≡ digit (p .cells) i) where
+module _ (s : Shape) (p : Position) (n i v : ℕ) (holds : Holds s p) (count : n ≡ cells s) (below : i < n)
+    (is : v ≡ digit (p .cells) i) where
   -- what was read stands in the board
   in-board : v ≡ at (digits n (p .cells)) i
   in-board = is ∙ sym (at-digits n (p .cells) i below)

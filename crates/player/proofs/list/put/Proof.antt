@@ -86,7 +86,8 @@ loop-again c =
     let below = test .loop-test .taken in
     let n = counted .cell-count .result in
     let p = counted .before .before .args .p in
-    one-more _ _ _ _ _ (test .before .loop .inv) _ (c .number-at .ensures ∙ sym (at-digits n (p .cells) (test .before .loop .i) below)) below
+    one-more _ _ _ _ _ (test .before .loop .inv) _
+    (c .number-at .ensures ∙ sym (at-digits n (p .cells) (test .before .loop .i) below)) below
 
 same-length : tie.Need-same-length Inv-loop μ-loop
 same-length c = keeps-length _ _ _ _ _ (c .before .loop .inv)

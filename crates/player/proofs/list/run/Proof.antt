@@ -115,7 +115,8 @@ changed-requires c κs =
 returns : tie.Need-returns Inv-loop μ-loop
 returns c =
     let at-loop = c .before .before .before .before .before in
-    stops _ _ _ _ _ _ _ (at-loop .loop .inv) (c .before .before .number-of .ensures) (c .before .before .before .before .loop-test .taken)
+    let read = c .before .before in
+    stops _ _ _ _ _ _ _ (at-loop .loop .inv) (read .number-of .ensures) (read .before .before .loop-test .taken)
     (sym (c .before .legal .ensures) ∙ c .if1 .left)
 
 loop-less : tie.Need-loop-less Inv-loop μ-loop

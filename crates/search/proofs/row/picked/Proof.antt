@@ -16,7 +16,8 @@ lesser-requires-2 c κs = search needs
 returns : tie.Need-returns
 returns c =
     let test = c .before .before in
-    picks-first _ _ _ _ _ _ (test .before .pre) (test .if1 .taken) (omega arith) (c .lesser2 .ensures ∙ ap (min _) (c .before .lesser .ensures))
+    picks-first _ _ _ _ _ _ (test .before .pre) (test .if1 .taken) (omega arith)
+    (c .lesser2 .ensures ∙ ap (min _) (c .before .lesser .ensures))
 
 lesser-requires-3 : tie.Need-lesser-requires-3
 lesser-requires-3 c κs = search needs

@@ -139,7 +139,8 @@ module _ (t : ℕ) where
       let isOpen = starts-open (start .args .job) _ _ _ _ _ _ fits (filled .first-row .ensures) (pre .1 .0 .holds .shape) in
       let room = room-kept (pre .1 .1 .1 .1) (filled .first-row .kept .1 .1 .1 .1 .1 .1 .1 .0) refl in
       let deeper = filled .before .before .if3 .left in
-      (omega (arith, start .pre .0, deeper), (pre .0, (pre .1 .0, (omega (arith, pre .1 .1 .0 .1, deeper), (pre .1 .1 .1 .0, (room, isOpen))))))
+      let below : start .args .g < start .args .job .ceiling = omega (arith, pre .1 .1 .0 .1, deeper) in
+      (omega (arith, start .pre .0, deeper), (pre .0, (pre .1 .0, (below, (pre .1 .1 .1 .0, (room, isOpen))))))
 
   visit-same-length : visit-lts.Need-same-length visit-claims visit-at visit.Post
   visit-same-length c =
@@ -159,7 +160,8 @@ module _ (t : ℕ) where
       let start = first .before .before .before in
       let pre = start .pre .1 in
       works _ _ _ _ _ _ _ _ _ (first .if1 .left) (away start (tests .if2 .left))
-      (omega (arith, pre .1 .1 .0 .1, deeper)) (row-fits (pre .1 .1 .1 .1) (pre .1 .1 .0 .1)) _ (filled .first-row .ensures) (worked .work .ensures)
+      (omega (arith, pre .1 .1 .0 .1, deeper)) (row-fits (pre .1 .1 .1 .1) (pre .1 .1 .0 .1)) _
+      (filled .first-row .ensures) (worked .work .ensures)
 
   -- ---- work: the places of a turn, and what is known there
 

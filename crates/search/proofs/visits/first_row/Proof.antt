@@ -33,7 +33,8 @@ mul-at c = search needs
 first-entry-requires : tie.Need-first-entry-requires
 first-entry-requires c κs =
     let pre = c .before .before .pre in
-    (pre .0, (pre .1 .0, ((pre .1 .1 .0 .0, (pre .1 .1 .0 .1, omega arith)), (f-is _ _ _ _ _ _ (pre .1 .0) (c .static-value .ensures), pre .1 .1 .1 .0))))
+    let valued = f-is _ _ _ _ _ _ (pre .1 .0) (c .static-value .ensures) in
+    (pre .0, (pre .1 .0, ((pre .1 .1 .0 .0, (pre .1 .1 .0 .1, omega arith)), (valued, pre .1 .1 .1 .0))))
 
 mul-table : tie.Need-mul-table
 mul-table c = search needs
@@ -44,7 +45,8 @@ slice-write-table c = search needs
 first-entry-requires-2 : tie.Need-first-entry-requires-2
 first-entry-requires-2 c κs =
     let pre = c .before .before .before .pre in
-    (pre .0, (pre .1 .0, ((pre .1 .1 .0 .0, (pre .1 .1 .0 .1, omega arith)), (f-is _ _ _ _ _ _ (pre .1 .0) (c .before .static-value .ensures), pre .1 .1 .1 .0))))
+    let valued = f-is _ _ _ _ _ _ (pre .1 .0) (c .before .static-value .ensures) in
+    (pre .0, (pre .1 .0, ((pre .1 .1 .0 .0, (pre .1 .1 .0 .1, omega arith)), (valued, pre .1 .1 .1 .0))))
 
 add-table : tie.Need-add-table
 add-table c = search needs
@@ -58,7 +60,8 @@ slice-write-table-2 c = simp length-set (omega arith)
 first-entry-requires-3 : tie.Need-first-entry-requires-3
 first-entry-requires-3 c κs =
     let pre = c .before .before .before .before .pre in
-    (pre .0, (pre .1 .0, ((pre .1 .1 .0 .0, (pre .1 .1 .0 .1, omega arith)), (f-is _ _ _ _ _ _ (pre .1 .0) (c .before .before .static-value .ensures), pre .1 .1 .1 .0))))
+    let valued = f-is _ _ _ _ _ _ (pre .1 .0) (c .before .before .static-value .ensures) in
+    (pre .0, (pre .1 .0, ((pre .1 .1 .0 .0, (pre .1 .1 .0 .1, omega arith)), (valued, pre .1 .1 .1 .0))))
 
 add-table-2 : tie.Need-add-table-2
 add-table-2 c = search needs
@@ -72,7 +75,8 @@ slice-write-table-3 c = simp length-set (omega arith)
 first-entry-requires-4 : tie.Need-first-entry-requires-4
 first-entry-requires-4 c κs =
     let pre = c .before .before .before .before .before .pre in
-    (pre .0, (pre .1 .0, ((pre .1 .1 .0 .0, (pre .1 .1 .0 .1, omega arith)), (f-is _ _ _ _ _ _ (pre .1 .0) (c .before .before .before .static-value .ensures), pre .1 .1 .1 .0))))
+    let valued = f-is _ _ _ _ _ _ (pre .1 .0) (c .before .before .before .static-value .ensures) in
+    (pre .0, (pre .1 .0, ((pre .1 .1 .0 .0, (pre .1 .1 .0 .1, omega arith)), (valued, pre .1 .1 .1 .0))))
 
 add-table-3 : tie.Need-add-table-3
 add-table-3 c = search needs
@@ -91,7 +95,12 @@ unfolding firstRow
 returns c =
     let start = c .before .before .before .before .before .before in
     four-stores (start .args .table .now) (start .args .g) _ _ _ _ (start .pre .1 .1 .1 .1)
-    ∙ simp (c .first-entry4 .ensures, c .before .first-entry3 .ensures, c .before .before .first-entry2 .ensures, c .before .before .before .first-entry .ensures)
+    ∙ simp (
+      c .first-entry4 .ensures,
+      c .before .first-entry3 .ensures,
+      c .before .before .first-entry2 .ensures,
+      c .before .before .before .first-entry .ensures,
+    )
 
 pub first-row-spec : {M : Type 1} → statement M
 first-row-spec =
