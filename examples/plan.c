@@ -87,7 +87,7 @@ static void plan(const struct job *job) {
     else if (number == LOWPENGINE_BAD_VALUE || number == LOWPENGINE_REPEATED_VALUE)
         printf("refused at cell %u: %s\n", (unsigned)lowpengine_cell(answer), reason(number));
     else
-        printf("refused, %u visits made: %s\n", (unsigned)lowpengine_visits(answer), reason(number));
+        printf("refused: %s (visits made: %u)\n", reason(number), (unsigned)lowpengine_visits(answer));
 
     for (uint32_t slide = 1; slide <= lowpengine_length(answer); slide++) {
         uint64_t played = lowpengine_play(job->width, job->height, job->board, n, moves, slide, board, sizeof board);

@@ -145,7 +145,7 @@ int main(void) {
     plan(2, 4, 0, 6, 7, 65, 120, "weight", 7);
     plan(2, 4, 0, 6, 7, 1, 5, "short", 8);
     plan(2, 4, 0, 5, 11, 1, 120, "no plan", 10);
-    plan(2, 4, 0, 5, 10, 1, 120, "spent", 11);
+    plan(2, 4, 0, 6, 6, 1, 120, "spent", 11);
 
     uint8_t moves[LOWPENGINE_MOVES], table[LOWPENGINE_TABLE_BYTES];
     const uint8_t odd[] = {0, 2, 1, 3};

@@ -9,6 +9,7 @@
 mod boards;
 mod bound;
 mod call;
+mod ceilings;
 mod check;
 mod damage;
 mod engine;
@@ -44,6 +45,7 @@ fn tasks(vectors: Option<PathBuf>, share: usize) -> Vec<Task> {
         tasks.push(Box::new(move |checker| small::run(checker, part, PARTS, share)));
         tasks.push(Box::new(move |checker| boards::walks(checker, part, 126usize.div_ceil(share))));
         tasks.push(Box::new(move |checker| boards::shuffles(checker, part, 126usize.div_ceil(share))));
+        tasks.push(Box::new(move |checker| ceilings::run(checker, part, 126usize.div_ceil(share))));
         tasks.push(Box::new(move |checker| wild::run(checker, part, 2_500usize.div_ceil(share))));
         tasks.push(Box::new(move |checker| plays::run(checker, part, 180usize.div_ceil(share))));
         tasks.push(Box::new(move |checker| records::run(checker, part, 60usize.div_ceil(share))));

@@ -36,7 +36,7 @@ pub fn run(checker: &mut Checker, folder: &Path) {
 }
 
 fn texts(checker: &mut Checker, folder: &Path) {
-    for (hex, expected) in lines(folder, "texts-base.txt") {
+    for (hex, expected) in lines(folder, "texts-after-e3.txt") {
         let byte = |at| u8::from_str_radix(&hex[at..at + 2], 16).unwrap_or_else(|_| panic!("not hex: {hex}"));
         let text: Vec<u8> = (0..hex.len()).step_by(2).map(byte).collect();
         let wrote = job::run(&text);
@@ -46,7 +46,7 @@ fn texts(checker: &mut Checker, folder: &Path) {
 
 fn jobs(checker: &mut Checker, random: &Random, folder: &Path) {
     let (mut calls, mut wanted) = (Vec::new(), Vec::new());
-    for (line, expected) in lines(folder, "jobs-base.txt") {
+    for (line, expected) in lines(folder, "jobs-after-e3.txt") {
         let text = format!("{line}\n");
         let wrote = job::run(text.as_bytes());
         checker.claim("vectors: jobs, second version", wrote == expected, || format!("{line}\n  {wrote}, not {expected}"));

@@ -1,7 +1,8 @@
 //! The search: best first, in room for one path, with stored values that bring it back to where it left off.
 //!
 //! A position reached by g moves has the static value f = q * g + p * h and a stored value F. A visit works through its
-//! successors, the least F first, and hands each the lesser of its own bound and the second least F.
+//! successors, the least F first, and hands each the lesser of its own bound and the second least F. A successor whose g + h is
+//! above the ceiling has an infinite F at once.
 
 use crate::board::{Board, Shape, MOST_CELLS, MOVES};
 
@@ -59,7 +60,7 @@ pub fn run(shape: Shape, start: Board, ceiling: usize, budget: u32, p: u32, q: u
         next[cell] = MOVES.map(|to| shape.neighbour(cell, to).map(|place| place as u8));
     }
     let mut search = Search { shape, way, next, ceiling, budget, p, q, visits: 0, path: [0; MOST_MOVES] };
-    let f = search.value(&start, 0);
+    let f = search.value(0, search.distance(&start));
     let end = search.visit(&Position { board: start, last: None, f, stored: f }, 0, INFINITY);
     let visits = search.visits;
     let end = match end {
@@ -109,17 +110,24 @@ impl Search {
             }
             if let Some(place) = self.next[here.board.empty as usize][to as usize] {
                 let board = here.board.with_empty_at(place as usize);
-                let f = self.value(&board, depth + 1);
-                let stored = if here.f < here.stored { f.max(here.stored) } else { f };
+                let h = self.distance(&board);
+                let f = self.value(depth + 1, h);
+                let mut stored = if here.f < here.stored { f.max(here.stored) } else { f };
+                if depth + 1 + h > self.ceiling {
+                    stored = INFINITY;
+                }
                 successors[to as usize] = Some(Position { board, last: Some(to), f, stored });
             }
         }
         successors
     }
 
-    fn value(&self, board: &Board, depth: usize) -> u32 {
-        let h: u32 = (0..self.shape.cells()).map(|cell| self.way[board.cells[cell] as usize][cell] as u32).sum();
-        self.q * depth as u32 + self.p * h
+    fn distance(&self, board: &Board) -> usize {
+        (0..self.shape.cells()).map(|cell| self.way[board.cells[cell] as usize][cell] as usize).sum()
+    }
+
+    fn value(&self, depth: usize, h: usize) -> u32 {
+        self.q * depth as u32 + self.p * h as u32
     }
 
     fn is_goal(&self, board: &Board) -> bool {

@@ -20,12 +20,12 @@ fn rows_worked_by_hand() {
         ("2 2 1 1 1 1 1 0 2 3", "refused 11 0 1"),
         ("2 2 0 1 1 1 1 0 2 3", "refused 10 0 1"),
         ("2 2 6 7 1 1 3 2 1 0", "plan 6 7 ULDRUL"),
-        ("2 2 5 11 1 1 3 2 1 0", "refused 10 0 11"),
-        ("2 2 5 10 1 1 3 2 1 0", "refused 11 0 10"),
+        ("2 2 5 11 1 1 3 2 1 0", "refused 10 0 1"),
+        ("2 2 5 10 1 1 3 2 1 0", "refused 10 0 1"),
         ("2 2 4 5 1 1 0 3 1 2", "plan 4 5 DRUL"),
-        ("2 2 3 7 1 1 0 3 1 2", "refused 10 0 7"),
-        ("3 2 2 8 1 1 0 2 1 3 5 4", "refused 10 0 8"),
-        ("3 2 2 7 1 1 0 2 1 3 5 4", "refused 11 0 7"),
+        ("2 2 3 7 1 1 0 3 1 2", "refused 10 0 1"),
+        ("3 2 2 8 1 1 0 2 1 3 5 4", "refused 10 0 1"),
+        ("3 2 2 7 1 1 0 2 1 3 5 4", "refused 10 0 1"),
         ("2 2 6 9 1 1 0 2 1 3", "refused 9 0 0"),
         ("2 2 6 9 1 1 0 1 1 4", "refused 3 3 0"),
         ("2 2 6 9 1 1 0 1 1 3", "refused 4 2 0"),
@@ -54,24 +54,58 @@ fn limits_of_the_numbers() {
     }
 }
 
-// Boards that tell slips apart which the rows above let pass, each with what the slip would answer.
-
-/// 15 visits.
+/// The least budget does too where the distance is above the ceiling.
 #[test]
-fn never_inheriting() {
-    assert_eq!(answer("3 2 3 1000 1 1 4 1 0 3 2 5"), "refused 10 0 14");
+fn one_visit_is_enough_below_the_distance() {
+    let rows = ["2 2 5 1 1 1 3 2 1 0", "2 2 3 1 1 1 0 3 1 2", "2 2 0 1 64 1 3 2 1 0", "3 2 2 1 3 2 0 2 1 3 5 4"];
+    for job in rows {
+        assert_eq!(answer(job), "refused 10 0 1", "{job}");
+    }
 }
 
-/// 7 visits.
+// Boards that tell slips apart which the rows above let pass, each with what the slip would answer.
+
+/// 14 visits.
+#[test]
+fn never_inheriting() {
+    assert_eq!(answer("3 2 8 1000 1 1 0 2 4 3 1 5"), "refused 10 0 13");
+}
+
+/// 6 visits.
 #[test]
 fn always_inheriting() {
+    assert_eq!(answer("3 2 6 1000 3 1 3 1 0 4 5 2"), "plan 4 5 DLLU");
+}
+
+/// 11 visits.
+#[test]
+fn handing_down_the_bound_alone() {
+    assert_eq!(answer("2 3 10 1000 1 1 2 1 0 4 5 3"), "plan 5 7 RDLUU");
+}
+
+/// The ceiling is the distance: 10 after one visit, at both budgets.
+#[test]
+fn cut_only_above_the_ceiling() {
+    assert_eq!(answer("3 2 5 7 1 1 1 0 5 3 2 4"), "plan 5 7 DRULL");
+    assert_eq!(answer("3 2 5 6 1 1 1 0 5 3 2 4"), "refused 11 0 6");
+}
+
+/// 19 visits, and 325 where nothing is cut before the ceiling.
+#[test]
+fn cut_on_repeated_visits_too() {
+    assert_eq!(answer("3 2 8 1000 2 1 5 1 0 3 4 2"), "refused 10 0 16");
+}
+
+/// 10 after one visit.
+#[test]
+fn cut_by_g_and_h() {
     assert_eq!(answer("3 2 6 1000 2 1 3 0 1 4 5 2"), "plan 5 6 RDLLU");
 }
 
-/// A tie goes to the successor that returned last: 9 visits, and in the next two 19 and 15.
+/// A tie goes to the successor that returned last: 14 visits, and in the next two 19 and 15.
 #[test]
 fn latest_return_3_by_2() {
-    assert_eq!(answer("3 2 2 1000 1 1 3 0 1 5 2 4"), "refused 10 0 10");
+    assert_eq!(answer("3 2 8 1000 1 1 3 1 5 2 0 4"), "plan 8 15 LURDRULL");
 }
 
 #[test]

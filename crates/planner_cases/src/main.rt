@@ -1,10 +1,12 @@
-// Plans the boards that document 01 works by hand, and its boundary cases; then the jobs of standard input, boards of all nine shapes.
+// Plans the boards that document 01 works by hand, as request E3 amends them, and its boundary cases; then the jobs of standard input,
+// boards of all nine shapes.
 // The buffers hold noise. A line for each: the answer's number, cell, length and visits; the plan's letters, `-` for none; whether the
 // first 4 × (ceiling + 1) table numbers are all 0 afterwards; and whether everything else in both buffers is as it was. The file stdout
 // has what each line must be.
 //
-// The file stdin has the jobs as the job program reads them, a line each: lines of tests/vectors/jobs-base.txt, which has their answers
-// too. Of each shape a plan at weight 1 over 1, a plan at another weight, and a refusal 10, 11 and 9.
+// The file stdin has the jobs as the job program reads them, a line each: lines of tests/vectors/jobs-after-e3.txt, which has their
+// answers too. Of each shape a plan at weight 1 over 1, a plan at another weight, and a refusal 10 after one visit, 10 after more, 11
+// and 9; of 2 by 2, where that file has no other, both 10 are after one visit, the second at a budget of 1, and there is no 11.
 
 mod input;
 
@@ -201,7 +203,7 @@ fn table_kept(n: usize, table: &[u16; 484]) -> bool {
     true
 }
 
-// The worked table, in its order: weight 1 over 1, buffers long enough.
+// The worked table, in its order: weight 1 over 1, buffers long enough. Where the distance is above the ceiling it is 10 after one visit.
 fn worked() {
     show(2, 2, &[0, 1, 2, 3], 0, 1, 1, 1, 484);
     show(2, 2, &[1, 0, 2, 3], 1, 2, 1, 1, 484);
