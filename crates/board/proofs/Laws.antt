@@ -43,6 +43,7 @@ pub use Rattle.board.proofs.theory.Distances.{distance-0-goal, distance
 pub use Rattle.board.proofs.theory.Changes.{looked-up, readBack, read-back, move-change, move-one-step, answered-change}
 pub use Rattle.board.proofs.theory.Changes.{list-distance}
 pub use Rattle.board.proofs.theory.Keeping.{goal-by-distance, kept-most, kept-goal, leads-on, changed-distance, kept-on}
+pub use Rattle.board.proofs.theory.Keeping.{leads-nearer, leads-farther}
 -- a held board's cells as the digits of a number
 pub use Rattle.board.proofs.theory.Digits.{length-digits, at-digits}
 -- the parity of test 9

@@ -13,6 +13,7 @@ ghost use Rattle.board.specs.Moves.{legal as Moves·legal};
 ghost use Rattle.board.specs.Distance.{NearTable};
 ghost use Rattle.board.specs.Held.{held, Holds, Slides, Slid};
 ghost use Rattle.board.specs.Change.{changeOf, MovedBy, LeadsOn};
+ghost use Rattle.board.specs.Change.{change as Change·change};
 
 // The move is legal on the held board; a number above 3 is no move.
 pub fn legal(shape: Shape, p: Position, m: usize) -> bool
@@ -22,19 +23,29 @@ pub fn legal(shape: Shape, p: Position, m: usize) -> bool
     stays_on(shape, p.empty, m)
 }
 
-// The position after a legal move, and the change of its distance: that of the one tray that slides, by the shape's own table.
+// The position after a legal move, and the change of its distance.
 pub fn after(shape: Shape, p: Position, m: usize, near: &[u8; 256]) -> Moved
     requires { ⌜ Holds shape p ⌝ }
     requires { ⌜ Moves·legal shape (held shape p) m ≡ true ⌝ }
     requires { ⌜ NearTable shape (now near) ⌝ }
     ensures { λ r. ⌜ MovedBy shape (held shape p) m r ⌝ }
 {
+    let change = change_by(shape, p, m, near);
+    let position = slid(p, leads_to(shape, p.empty, m));
+    Moved { position, change }
+}
+
+// The change of distance by a legal move: that of the one tray that slides, by the shape's own table.
+pub fn change_by(shape: Shape, p: Position, m: usize, near: &[u8; 256]) -> i8
+    requires { ⌜ Holds shape p ⌝ }
+    requires { ⌜ Moves·legal shape (held shape p) m ≡ true ⌝ }
+    requires { ⌜ NearTable shape (now near) ⌝ }
+    ensures { λ r. ⌜ r ≡ Change·change shape (held shape p) m ⌝ }
+{
     let e = p.empty;
     let t = leads_to(shape, e, m);
     let tray = number_at(p, t);
-    let change = change_of(near[16 * e + tray], near[16 * t + tray]);
-    let position = slid(p, t);
-    Moved { position, change }
+    change_of(near[16 * e + tray], near[16 * t + tray])
 }
 
 // The distance after a move that changed it, from the one before.

@@ -2,6 +2,7 @@
 -- leaves in the two buffers. Assumes nothing.
 use Prim.Native.Nat.{ℕ, suc, _+_, _*_, _-_, _≤_, _<_}
 use mathlib.Core.Path.{_≡_}
+use mathlib.Core.Bool.{cond}
 use mathlib.Core.List.{List, _++_}
 use lib.Dec.{T}
 use lib.ListN.{length, take, drop, replicate}
@@ -11,7 +12,7 @@ use Rattle.search.specs.declared.Job.{Job}
 use Rattle.search.specs.declared.Pick.{Pick}
 use Rattle.search.specs.declared.Out.{Out}
 use Rattle.search.specs.declared.Out.the-variants.{Found, Value, Spent}
-use Rattle.search.specs.Row.{infinity, entry, best, second}
+use Rattle.search.specs.Row.{infinity, entry, best, second, firstStored, aboveCeiling}
 use Rattle.search.specs.Space.{Space, boards}
 use Rattle.search.specs.Search.{Outcome, found, value, spent, static, visit, work, search}
 
@@ -37,6 +38,18 @@ rowAt table g = take 4 (drop (4 * g) table)
 
 abbrev pub putRow : List ℕ → ℕ → List ℕ → List ℕ
 putRow table g r = take (4 * g) table ++ (r ++ drop (4 * g + 4) table)
+
+-- f by numbers, at depth g and distance h
+abbrev pub valueAt : Job → ℕ → ℕ → ℕ
+valueAt job g h = job .weight .q * g + job .weight .p * h
+
+-- a value at depth g and distance h: infinity where these are together above the ceiling
+abbrev pub cutAt : Job → ℕ → ℕ → ℕ → ℕ
+cutAt job g h v = cond (aboveCeiling (job .ceiling) g h) infinity v
+
+-- the first F of a successor at distance k, of a position at depth g with the distance h and the stored value F
+abbrev pub firstAt : Job → ℕ → ℕ → ℕ → ℕ → ℕ
+firstAt job g h stored k = cutAt job (suc g) k (firstStored (valueAt job g h) stored (valueAt job (suc g) k))
 
 -- what the code picks of a row: the move to visit, and the second least F
 pub record Picks (r : List ℕ) (x : Pick) : Type 0 where

@@ -17,6 +17,7 @@ use crate::row::stops_at;
 use crate::row::takes_back;
 use board::Position;
 use board::moves::after;
+use board::moves::change_by;
 use board::moves::changed;
 use board::moves::legal;
 ghost use mathlib.Core.Path.{_≡_};
@@ -25,10 +26,11 @@ ghost use lib.ListN.{length};
 ghost use Rattle.board.specs.Held.{held};
 ghost use Rattle.board.specs.Distance.{NearTable};
 ghost use Rattle.board.specs.Change.{Kept};
-ghost use Rattle.search.specs.Row.{best};
+ghost use Rattle.search.specs.Row.{best, firstStored};
 ghost use Rattle.search.specs.Space.{boards};
 ghost use Rattle.search.specs.Search.{static, firstEntry, firstRow};
 ghost use Rattle.search.specs.Run.{SmallJob, Room, rowAt, putRow, visited, worked, Ran, Open, Picks};
+ghost use Rattle.search.specs.Run.{valueAt, cutAt, firstAt};
 
 // A visit to the position at depth g, reached by the move `last`, with its stored value and a bound; `left` visits may still be made.
 pub fn visit(
@@ -156,7 +158,8 @@ fn row_pick(table: &[u16], g: usize, least: u16) -> Pick
     )
 }
 
-// Puts the first stored values of the successors into the row of depth g.
+// Puts the first stored values of the successors into the row of depth g. A successor is one step nearer to the goal or one farther, so
+// two values serve the whole row.
 fn first_row(
     job: Job,
     p: Position,
@@ -168,7 +171,7 @@ fn first_row(
     table: &mut [u16],
 )
     requires { ⌜ SmallJob job ⌝ }
-    requires { ⌜ Kept (job .shape) p h ⌝ }
+    requires { ⌜ (Kept (job .shape) p h) × (0 < h) ⌝ }
     requires { ⌜ (last ≤ 4) × (g < job .ceiling) ⌝ }
     requires { ⌜ NearTable (job .shape) (now near) ⌝ }
     requires { ⌜ 4 * (g + 1) ≤ length (now table) ⌝ }
@@ -176,29 +179,31 @@ fn first_row(
         (firstRow (boards (job .shape)) (static (boards (job .shape)) (job .weight)) (job .ceiling) g (held (job .shape) p) last stored) ⌝ }
 {
     let f = static_value(job, h, g);
+    let closer = first_value(job, f, stored, h - 1, g + 1);
+    let farther = first_value(job, f, stored, h + 1, g + 1);
     let at = 4 * g;
-    table[at] = first_entry(job, p, h, last, g, f, stored, 0, near);
-    table[at + 1] = first_entry(job, p, h, last, g, f, stored, 1, near);
-    table[at + 2] = first_entry(job, p, h, last, g, f, stored, 2, near);
-    table[at + 3] = first_entry(job, p, h, last, g, f, stored, 3, near);
+    table[at] = first_entry(job, p, h, last, g, stored, 0, closer, farther, near);
+    table[at + 1] = first_entry(job, p, h, last, g, stored, 1, closer, farther, near);
+    table[at + 2] = first_entry(job, p, h, last, g, stored, 2, closer, farther, near);
+    table[at + 3] = first_entry(job, p, h, last, g, stored, 3, closer, farther, near);
 }
 
-// The first stored value of a move: infinity where it makes no successor, or one whose g + h is above the ceiling.
+// The first stored value of a move: infinity where it makes no successor, and else the nearer or the farther successors' value.
 fn first_entry(
     job: Job,
     p: Position,
     h: usize,
     last: usize,
     g: usize,
-    f: u16,
     stored: u16,
     m: usize,
+    closer: u16,
+    farther: u16,
     near: &[u8; 256],
 ) -> u16
-    requires { ⌜ SmallJob job ⌝ }
     requires { ⌜ Kept (job .shape) p h ⌝ }
-    requires { ⌜ (last ≤ 4) × ((g < job .ceiling) × (m < 4)) ⌝ }
-    requires { ⌜ f ≡ static (boards (job .shape)) (job .weight) g (held (job .shape) p) ⌝ }
+    requires { ⌜ (last ≤ 4) × (m < 4) ⌝ }
+    requires { ⌜ (closer ≡ firstAt job g h stored (h - 1)) × (farther ≡ firstAt job g h stored (h + 1)) ⌝ }
     requires { ⌜ NearTable (job .shape) (now near) ⌝ }
     ensures { λ r. ⌜ r ≡ firstEntry (boards (job .shape)) (static (boards (job .shape)) (job .weight)) (job .ceiling)
         g (held (job .shape) p) last stored m ⌝ }
@@ -207,22 +212,31 @@ fn first_entry(
         return INFINITY;
     }
     if legal(job.shape, p, m) {
-        let next = after(job.shape, p, m, near);
-        let deeper = g + 1;
-        let far = changed(h, next.change);
-        if above_ceiling(job.ceiling, deeper, far) {
-            return INFINITY;
+        if change_by(job.shape, p, m, near) < 0 {
+            return closer;
         }
-        return first_stored(f, stored, static_value(job, far, deeper));
+        return farther;
     }
     INFINITY
+}
+
+// The first stored value of a successor at depth g, whose distance is h: infinity where g + h is above the ceiling.
+fn first_value(job: Job, f: u16, stored: u16, h: usize, g: usize) -> u16
+    requires { ⌜ SmallJob job ⌝ }
+    requires { ⌜ (h ≤ 91) × (g ≤ job .ceiling) ⌝ }
+    ensures { λ r. ⌜ r ≡ cutAt job g h (firstStored f stored (valueAt job g h)) ⌝ }
+{
+    if above_ceiling(job.ceiling, g, h) {
+        return INFINITY;
+    }
+    first_stored(f, stored, static_value(job, h, g))
 }
 
 // f = q × g + p × h.
 pub fn static_value(job: Job, h: usize, g: usize) -> u16
     requires { ⌜ SmallJob job ⌝ }
-    requires { ⌜ (h ≤ 90) × (g ≤ job .ceiling) ⌝ }
-    ensures { λ r. ⌜ r ≡ job .weight .q * g + job .weight .p * h ⌝ }
+    requires { ⌜ (h ≤ 91) × (g ≤ job .ceiling) ⌝ }
+    ensures { λ r. ⌜ r ≡ valueAt job g h ⌝ }
 {
     (job.weight.q * g + job.weight.p * h) as u16
 }

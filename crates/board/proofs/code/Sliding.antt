@@ -176,12 +176,6 @@ module _ (s : Shape) (p : Position) (holds : Holds s p) where
       tray-below : x < cells s
       tray-below = omega (arith, tray-in-board, holds .board .small t target-below)
 
-      -- its two entries are in the table
-      pub entries-inside : (16 * p .empty + x < 256) × (16 * t + x < 256)
-      entries-inside =
-          let few = cells-within (holds .shape) in
-          (omega (arith, empty-below, tray-below), omega (arith, target-below, tray-below))
-
       module _ (near : List ℕ) (table : NearTable s near) where
         pub entries-tell : changeOf (getD near (16 * p .empty + x) 0) (getD near (16 * t + x) 0) ≡ change s (held s p) m
         unfolding change
@@ -191,14 +185,14 @@ module _ (s : Shape) (p : Position) (holds : Holds s p) where
             ∙ ap (λ (v : ℕ). changeOf (trayDistance s (p .empty) v) (trayDistance s t v)) tray-in-board
             ∙ ap₂ (λ (e k : ℕ). changeOf (trayDistance s e (at (held s p) k)) (trayDistance s k (at (held s p) k))) (holds .empty) target-is
 
-        -- the move's answer: the slide, and the change as a signed byte
-        pub moved-by : (q : Position) (z : ℤ) → Slid p t q → z ≡ change s (held s p) m
-            → MovedBy s (held s p) m (record { position = q; change = z })
-        moved-by q z made tells =
-            record {
-              position = slid-taken q made;
-              sum =
-                  move-change s (held s p) m (holds .shape) (holds .board) (passes allowed)
-                  ∙ ap (λ (y : ℤ). pos (distance s (held s p)) +ℤ y) (sym tells);
-              oneStep = subst OneStep (sym tells) (move-one-step s (held s p) m (holds .shape) (holds .board) (passes allowed));
-            }
+    -- ---- the move's answer: the slide, and the change
+
+    pub moved-by : (q : Position) (z : ℤ) → Slid p t q → z ≡ change s board m → MovedBy s board m (record { position = q; change = z })
+    moved-by q z made tells =
+        record {
+          position = slid-taken q made;
+          sum =
+              move-change s board m (holds .shape) (holds .board) (passes allowed)
+              ∙ ap (λ (y : ℤ). pos (distance s board) +ℤ y) (sym tells);
+          oneStep = subst OneStep (sym tells) (move-one-step s board m (holds .shape) (holds .board) (passes allowed));
+        }

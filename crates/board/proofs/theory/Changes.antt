@@ -72,6 +72,9 @@ pub read-back : {z : ℤ} → OneStep z → readBack z ≡ z
 read-back nearer = refl
 read-back farther = refl
 
+pub read-as : {y z : ℤ} → z ≡ y → OneStep y → readBack z ≡ y
+read-as e step = ap readBack e ∙ read-back step
+
 -- ---- a tray's two distances
 
 pub change-one-step : (new old : ℕ) → OneStep (changeOf new old)

@@ -28,7 +28,7 @@ distance-requires c κs = search needs
 static-value-requires : tie.Need-static-value-requires
 static-value-requires c κs =
     let start = c .before .before .before .before .before in
-    (start .pre .0 .0, (kept-most _ _ _ (kept _ _ _ (start .pre .0 .1) (c .distance .ensures)), omega arith))
+    (start .pre .0 .0, (omega (arith, kept-most _ _ _ (kept _ _ _ (start .pre .0 .1) (c .distance .ensures))), omega arith))
 
 visit-requires : tie.Need-visit-requires
 visit-requires c κs =

@@ -93,6 +93,9 @@ module _ (t : ℕ) where
 
   -- ---- visit: the goal is known by distance 0
 
+  not-0 : (h : ℕ) → (h ≡ 0 → ⊥) → 0 < h
+  not-0 h d = omega arith
+
   abbrev Entered : Type 0
   Entered = visit-lts.Start visit-claims visit-at visit.Post
 
@@ -124,8 +127,9 @@ module _ (t : ℕ) where
 
   visit-first-row-requires : visit-lts.Need-first-row-requires visit-claims visit-at visit.Post
   visit-first-row-requires c κs =
-      let pre = c .before .before .before .before .before .before .before .pre .1 in
-      (pre .0, (pre .1 .0, ((pre .1 .1 .0 .0, omega arith), (pre .1 .1 .1 .0, row-fits (pre .1 .1 .1 .1) (pre .1 .1 .0 .1)))))
+      let tests = c .before .before .before in
+      let pre = tests .before .before .before .before .pre .1 in
+      (pre .0, ((pre .1 .0, not-0 _ (tests .if2 .left)), ((pre .1 .1 .0 .0, omega arith), (pre .1 .1 .1 .0, row-fits (pre .1 .1 .1 .1) (pre .1 .1 .0 .1)))))
 
   visit-sub-work : visit-lts.Need-sub-work visit-claims visit-at visit.Post
   visit-sub-work c = omega arith

@@ -1,15 +1,20 @@
--- `search::visits::first_entry` meets its contract: its three tests are those of a successor and of the ceiling, and the distance that the
--- move's change leads to is that of the board that the definition speaks of. Assumes nothing.
-use Prim.Native.Nat.{ℕ, suc, _+_}
-use mathlib.Core.Path.{_≡_, refl, sym, _∙_}
+-- `search::visits::first_entry` meets its contract: its first two tests are those of a successor, and the third tells whether the move's
+-- board is one step nearer or one farther. Assumes nothing.
+use Prim.Native.Nat.{ℕ, suc, _+_, _-_}
+use mathlib.Core.Path.{_≡_, refl, sym, ap₂, _∙_}
 use mathlib.Core.Bool.{Bool, true, false, cond, _&&_}
-use native.Mathlib.Numerals.{add-one}
+use mathlib.Core.List.{List}
+use native.Mathlib.Omega.{arith}
 use borrow.Author.Needs.{needs}
-use Rattle.board.proofs.Laws.{kept-most, leads-on, changed-distance, kept-on}
-use Rattle.search.specs.Space.{Space}
+use Rattle.board.specs.Moves.{after}
+use Rattle.board.specs.Distance.{distance}
+use Rattle.board.proofs.Laws.{leads-nearer, leads-farther}
+use Rattle.search.specs.declared.Job.{Job}
+use Rattle.search.specs.Space.{Space, boards}
 use Rattle.search.specs.Row.{infinity, takesBack, firstStored, aboveCeiling}
-use Rattle.search.specs.Search.{isSuccessor, firstEntry}
-use Rattle.search.proofs.code.BoardSpace.{valued}
+use Rattle.search.specs.Search.{static, isSuccessor, firstEntry}
+use Rattle.search.specs.Run.{valueAt, cutAt, firstAt}
+use Rattle.search.proofs.code.BoardSpace.{passes}
 use Rattle.search.proofs.visits.first_entry.Statement.{statement}
 use Rattle.search.proofs.visits.first_entry.Tie as tie
 
@@ -26,19 +31,21 @@ module _ (S : Space) (f : ℕ → S .State → ℕ) (ceiling g : ℕ) (s : S .St
   unfolding firstEntry isSuccessor
   not-legal e = rw e
 
-  -- the code's test is made of the distance h of what the move makes
-  module _ (allowed : S .may s m ≡ true) (onward : takesBack last m ≡ false) {h : ℕ} {test : Bool}
-      (far : h ≡ S .dist (S .makes s m)) (is : test ≡ aboveCeiling ceiling (g + 1) h) where
-    tests : {t : Bool} → test ≡ t → aboveCeiling ceiling (suc g) (S .dist (S .makes s m)) ≡ t
-    tests e = sym (rw (far, add-one g) at is) ∙ e
+  successor : S .may s m ≡ true → takesBack last m ≡ false
+      → cond (aboveCeiling ceiling (suc g) (S .dist (S .makes s m))) infinity (firstStored (f g s) stored (f (suc g) (S .makes s m)))
+      ≡ firstEntry S f ceiling g s last stored m
+  unfolding firstEntry isSuccessor
+  successor e back = rw (e, back)
 
-    above : test ≡ true → infinity ≡ firstEntry S f ceiling g s last stored m
-    unfolding firstEntry isSuccessor
-    above e = rw (allowed, onward, tests e)
-
-    within : test ≡ false → firstStored (f g s) stored (f (suc g) (S .makes s m)) ≡ firstEntry S f ceiling g s last stored m
-    unfolding firstEntry isSuccessor
-    within e = rw (allowed, onward, tests e)
+-- a successor's value by numbers
+first-at : (job : Job) (b : List ℕ) (g stored h k m : ℕ) → h ≡ distance (job .shape) b → k ≡ distance (job .shape) (after (job .shape) b m)
+    → firstAt job g h stored k
+    ≡ cutAt job (suc g) (distance (job .shape) (after (job .shape) b m))
+    (firstStored (static (boards (job .shape)) (job .weight) g b) stored
+    (static (boards (job .shape)) (job .weight) (suc g) (after (job .shape) b m)))
+unfolding static
+first-at job b g stored h k m is leads =
+    ap₂ (λ (x y : ℕ). cutAt job (suc g) y (firstStored (valueAt job g x) stored (valueAt job (suc g) y))) is leads
 
 takes-back-requires : tie.Need-takes-back-requires
 takes-back-requires c κs = search needs
@@ -47,61 +54,40 @@ returns : tie.Need-returns
 returns c = taken-back _ _ _ _ _ _ _ _ (sym (c .before .takes-back .ensures) ∙ c .if1 .taken)
 
 legal-requires : tie.Need-legal-requires
-legal-requires c κs = search needs
+legal-requires c κs = c .before .before .pre .0 .holds
 
-after-requires : tie.Need-after-requires
-after-requires c κs =
+change-by-requires : tie.Need-change-by-requires
+change-by-requires c κs =
     let pre = c .before .before .before .before .pre in
-    (pre .1 .0 .holds, (sym (c .before .legal .ensures) ∙ c .if2 .taken, pre .1 .1 .1 .1))
+    (pre .0 .holds, (sym (c .before .legal .ensures) ∙ c .if2 .taken, pre .1 .1 .1))
 
-add-deeper : tie.Need-add-deeper
-add-deeper c = search needs
-
-changed-requires : tie.Need-changed-requires
-changed-requires c κs =
-    let moved = c .before in
-    let start = moved .before .before .before .before .before in
-    leads-on _ _ _ (start .pre .1 .0) _ _ (moved .after .ensures)
-
-above-ceiling-requires : tie.Need-above-ceiling-requires
-above-ceiling-requires c κs = search needs
+-- one step nearer
 
 returns-2 : tie.Need-returns-2
 returns-2 c =
-    let led = c .before .before in
-    let moved = led .before .before in
-    let tested = moved .before .before in
+    let changed = c .before in
+    let tested = changed .before .before in
     let start = tested .before .before .before in
-    above _ _ _ _ _ _ _ _ (sym (tested .legal .ensures) ∙ moved .before .if2 .taken)
-    (sym (tested .before .before .takes-back .ensures) ∙ tested .before .if1 .left)
-    (changed-distance _ _ _ (start .pre .1 .0) _ _ (moved .after .ensures) _ (led .changed .ensures)) (c .before .above-ceiling .ensures)
-    (c .if3 .taken)
+    let a = start .args in
+    let allowed = sym (tested .legal .ensures) ∙ changed .before .if2 .taken in
+    let step = leads-nearer _ _ _ (start .pre .0) _ (passes allowed) _ (changed .change-by .ensures) (c .if3 .taken) in
+    start .pre .1 .1 .0 .0
+    ∙ first-at (a .job) _ _ _ _ _ (a .m) (start .pre .0 .full) (omega arith)
+    ∙ successor _ _ _ _ _ _ _ _ allowed (sym (tested .before .before .takes-back .ensures) ∙ tested .before .if1 .left)
 
-static-value-requires : tie.Need-static-value-requires
-static-value-requires c κs =
-    let led = c .before .before in
-    let moved = led .before .before in
-    let start = moved .before .before .before .before .before in
-    let kept = kept-on _ _ _ (start .pre .1 .0) _ _ (moved .after .ensures) _ (led .changed .ensures) in
-    (start .pre .0, (kept-most _ _ _ kept, rw add-one (start .pre .1 .1 .0 .1 .0)))
+-- one step farther
 
-first-stored-requires : tie.Need-first-stored-requires
-first-stored-requires c κs = search needs
-
--- the value of the board after the move, by the distance that was led on to it
 returns-3 : tie.Need-returns-3
 returns-3 c =
-    let near = c .before .before in
-    let led = near .before .before in
-    let moved = led .before .before in
-    let tested = moved .before .before in
+    let changed = c .before in
+    let tested = changed .before .before in
     let start = tested .before .before .before in
-    let far = changed-distance _ _ _ (start .pre .1 .0) _ _ (moved .after .ensures) _ (led .changed .ensures) in
-    let own = valued _ _ _ _ _ _ far (c .before .static-value .ensures) in
-    rw (c .first-stored .ensures, start .pre .1 .1 .1 .0, own, add-one)
-    (within _ _ _ _ _ _ _ _ (sym (tested .legal .ensures) ∙ moved .before .if2 .taken)
-    (sym (tested .before .before .takes-back .ensures) ∙ tested .before .if1 .left) far (near .before .above-ceiling .ensures)
-    (near .if3 .left))
+    let a = start .args in
+    let allowed = sym (tested .legal .ensures) ∙ changed .before .if2 .taken in
+    let step = leads-farther _ _ _ (start .pre .0) _ (passes allowed) _ (changed .change-by .ensures) (c .if3 .left) in
+    start .pre .1 .1 .0 .1
+    ∙ first-at (a .job) _ _ _ _ _ (a .m) (start .pre .0 .full) (omega arith)
+    ∙ successor _ _ _ _ _ _ _ _ allowed (sym (tested .before .before .takes-back .ensures) ∙ tested .before .if1 .left)
 
 returns-4 : tie.Need-returns-4
 returns-4 c = not-legal _ _ _ _ _ _ _ _ (sym (c .before .legal .ensures) ∙ c .if2 .left)
@@ -113,12 +99,7 @@ first-entry-spec =
     takes-back-requires
     returns
     legal-requires
-    after-requires
-    add-deeper
-    changed-requires
-    above-ceiling-requires
+    change-by-requires
     returns-2
-    static-value-requires
-    first-stored-requires
     returns-3
     returns-4)

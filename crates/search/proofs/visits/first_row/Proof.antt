@@ -1,40 +1,74 @@
--- `search::visits::first_row` meets its contract: the four stores put the definition's four first values into the row.
--- Assumes nothing.
-use Prim.Native.Nat.{ℕ, _+_, _*_}
-use mathlib.Core.Path.{_≡_, _∙_}
+-- `search::visits::first_row` meets its contract: the two values are those of a successor one step nearer and of one farther, and the four
+-- stores put the definition's four first values into the row. Assumes nothing.
+use Prim.Native.Nat.{ℕ, suc, _+_, _*_}
+use mathlib.Core.Path.{_≡_, ap₂, _∙_}
+use native.Mathlib.Numerals.{add-one}
 use native.Mathlib.Omega.{arith}
 use lib.ListN.{length-set}
 use borrow.Author.Needs.{needs}
-use Rattle.board.specs.declared.Shape.{Shape}
-use Rattle.board.specs.declared.Position.{Position}
-use Rattle.board.specs.Held.{held}
-use Rattle.board.specs.Change.{Kept}
 use Rattle.board.proofs.Laws.{kept-most}
-use Rattle.search.specs.declared.Weight.{Weight}
-use Rattle.search.specs.Space.{boards}
-use Rattle.search.specs.Search.{static, firstRow}
-use Rattle.search.proofs.code.BoardSpace.{valued}
+use Rattle.search.specs.declared.Job.{Job}
+use Rattle.search.specs.Row.{firstStored}
+use Rattle.search.specs.Search.{firstRow}
+use Rattle.search.specs.Run.{valueAt, cutAt, firstAt}
 use Rattle.search.proofs.code.TableRows.{four-stores}
 use Rattle.search.proofs.visits.first_row.Statement.{statement}
 use Rattle.search.proofs.visits.first_row.Tie as tie
 
--- f is the static value of the board that is held
-f-is : (s : Shape) (w : Weight) (p : Position) (g f h : ℕ) → Kept s p h → f ≡ w .q * g + w .p * h → f ≡ static (boards s) w g (held s p)
-f-is s w p g f h kept is = valued s w g f h (held s p) (kept .full) is
+-- the value v of the successors at distance k, by the f that the code computed
+value-is : (job : Job) (g h stored f k v : ℕ) → f ≡ valueAt job g h → v ≡ cutAt job (g + 1) k (firstStored f stored (valueAt job (g + 1) k))
+    → v ≡ firstAt job g h stored k
+value-is job g h stored f k v e is = is ∙ ap₂ (λ (x n : ℕ). cutAt job n k (firstStored x stored (valueAt job n k))) e (add-one g)
 
 static-value-requires : tie.Need-static-value-requires
 static-value-requires c κs =
     let pre = c .before .pre in
-    (pre .0, (kept-most _ _ _ (pre .1 .0), omega (arith, pre .1 .1 .0 .1)))
+    (pre .0, (omega (arith, kept-most _ _ _ (pre .1 .0 .0)), omega (arith, pre .1 .1 .0 .1)))
+
+sub-first-value : tie.Need-sub-first-value
+sub-first-value c = search needs
+
+add-first-value : tie.Need-add-first-value
+add-first-value c = search needs
+
+first-value-requires : tie.Need-first-value-requires
+first-value-requires c κs =
+    let pre = c .before .before .pre in
+    (pre .0, (omega (arith, kept-most _ _ _ (pre .1 .0 .0)), omega (arith, pre .1 .1 .0 .1)))
+
+add-first-value-2 : tie.Need-add-first-value-2
+add-first-value-2 c =
+    let pre = c .before .before .before .pre in
+    omega (arith, kept-most _ _ _ (pre .1 .0 .0))
+
+add-first-value-3 : tie.Need-add-first-value-3
+add-first-value-3 c = search needs
+
+first-value-requires-2 : tie.Need-first-value-requires-2
+first-value-requires-2 c κs =
+    let pre = c .before .before .before .pre in
+    (pre .0, (omega (arith, kept-most _ _ _ (pre .1 .0 .0)), omega (arith, pre .1 .1 .0 .1)))
 
 mul-at : tie.Need-mul-at
 mul-at c = search needs
 
 first-entry-requires : tie.Need-first-entry-requires
 first-entry-requires c κs =
-    let pre = c .before .before .pre in
-    let valued = f-is _ _ _ _ _ _ (pre .1 .0) (c .static-value .ensures) in
-    (pre .0, (pre .1 .0, ((pre .1 .1 .0 .0, (pre .1 .1 .0 .1, omega arith)), (valued, pre .1 .1 .1 .0))))
+    let far = c in
+    let close = far .before in
+    let first = close .before in
+    let start = first .before .before in
+    let a = start .args in
+    let f = first .static-value .ensures in (
+      start .pre .1 .0 .0,
+      (
+        (start .pre .1 .1 .0 .0, omega arith),
+        (
+          (value-is (a .job) (a .g) (a .h) _ _ _ _ f (close .first-value .ensures), value-is (a .job) (a .g) (a .h) _ _ _ _ f (far .first-value2 .ensures)),
+          start .pre .1 .1 .1 .0,
+        ),
+      ),
+    )
 
 mul-table : tie.Need-mul-table
 mul-table c = search needs
@@ -44,9 +78,21 @@ slice-write-table c = search needs
 
 first-entry-requires-2 : tie.Need-first-entry-requires-2
 first-entry-requires-2 c κs =
-    let pre = c .before .before .before .pre in
-    let valued = f-is _ _ _ _ _ _ (pre .1 .0) (c .before .static-value .ensures) in
-    (pre .0, (pre .1 .0, ((pre .1 .1 .0 .0, (pre .1 .1 .0 .1, omega arith)), (valued, pre .1 .1 .1 .0))))
+    let far = c .before in
+    let close = far .before in
+    let first = close .before in
+    let start = first .before .before in
+    let a = start .args in
+    let f = first .static-value .ensures in (
+      start .pre .1 .0 .0,
+      (
+        (start .pre .1 .1 .0 .0, omega arith),
+        (
+          (value-is (a .job) (a .g) (a .h) _ _ _ _ f (close .first-value .ensures), value-is (a .job) (a .g) (a .h) _ _ _ _ f (far .first-value2 .ensures)),
+          start .pre .1 .1 .1 .0,
+        ),
+      ),
+    )
 
 add-table : tie.Need-add-table
 add-table c = search needs
@@ -55,37 +101,75 @@ mul-table-2 : tie.Need-mul-table-2
 mul-table-2 c = search needs
 
 slice-write-table-2 : tie.Need-slice-write-table-2
-slice-write-table-2 c = simp length-set (omega arith)
+slice-write-table-2 c =
+    let start = c .before .before .before .before .before .before in
+    simp length-set (omega (arith, start .pre .1 .1 .1 .1))
 
 first-entry-requires-3 : tie.Need-first-entry-requires-3
 first-entry-requires-3 c κs =
-    let pre = c .before .before .before .before .pre in
-    let valued = f-is _ _ _ _ _ _ (pre .1 .0) (c .before .before .static-value .ensures) in
-    (pre .0, (pre .1 .0, ((pre .1 .1 .0 .0, (pre .1 .1 .0 .1, omega arith)), (valued, pre .1 .1 .1 .0))))
+    let far = c .before .before in
+    let close = far .before in
+    let first = close .before in
+    let start = first .before .before in
+    let a = start .args in
+    let f = first .static-value .ensures in (
+      start .pre .1 .0 .0,
+      (
+        (start .pre .1 .1 .0 .0, omega arith),
+        (
+          (value-is (a .job) (a .g) (a .h) _ _ _ _ f (close .first-value .ensures), value-is (a .job) (a .g) (a .h) _ _ _ _ f (far .first-value2 .ensures)),
+          start .pre .1 .1 .1 .0,
+        ),
+      ),
+    )
 
 add-table-2 : tie.Need-add-table-2
-add-table-2 c = search needs
+add-table-2 c =
+    let start = c .before .before .before .before .before .before .before in
+    omega (arith, start .pre .0 .ceiling, start .pre .1 .1 .0 .1)
 
 mul-table-3 : tie.Need-mul-table-3
-mul-table-3 c = search needs
+mul-table-3 c =
+    let start = c .before .before .before .before .before .before .before in
+    omega (arith, start .pre .0 .ceiling, start .pre .1 .1 .0 .1)
 
 slice-write-table-3 : tie.Need-slice-write-table-3
-slice-write-table-3 c = simp length-set (omega arith)
+slice-write-table-3 c =
+    let start = c .before .before .before .before .before .before .before in
+    simp length-set (omega (arith, start .pre .1 .1 .1 .1))
 
 first-entry-requires-4 : tie.Need-first-entry-requires-4
 first-entry-requires-4 c κs =
-    let pre = c .before .before .before .before .before .pre in
-    let valued = f-is _ _ _ _ _ _ (pre .1 .0) (c .before .before .before .static-value .ensures) in
-    (pre .0, (pre .1 .0, ((pre .1 .1 .0 .0, (pre .1 .1 .0 .1, omega arith)), (valued, pre .1 .1 .1 .0))))
+    let far = c .before .before .before in
+    let close = far .before in
+    let first = close .before in
+    let start = first .before .before in
+    let a = start .args in
+    let f = first .static-value .ensures in (
+      start .pre .1 .0 .0,
+      (
+        (start .pre .1 .1 .0 .0, omega arith),
+        (
+          (value-is (a .job) (a .g) (a .h) _ _ _ _ f (close .first-value .ensures), value-is (a .job) (a .g) (a .h) _ _ _ _ f (far .first-value2 .ensures)),
+          start .pre .1 .1 .1 .0,
+        ),
+      ),
+    )
 
 add-table-3 : tie.Need-add-table-3
-add-table-3 c = search needs
+add-table-3 c =
+    let start = c .before .before .before .before .before .before .before .before in
+    omega (arith, start .pre .0 .ceiling, start .pre .1 .1 .0 .1)
 
 mul-table-4 : tie.Need-mul-table-4
-mul-table-4 c = search needs
+mul-table-4 c =
+    let start = c .before .before .before .before .before .before .before .before in
+    omega (arith, start .pre .0 .ceiling, start .pre .1 .1 .0 .1)
 
 slice-write-table-4 : tie.Need-slice-write-table-4
-slice-write-table-4 c = simp length-set (omega arith)
+slice-write-table-4 c =
+    let start = c .before .before .before .before .before .before .before .before in
+    simp length-set (omega (arith, start .pre .1 .1 .1 .1))
 
 same-length : tie.Need-same-length
 same-length c = search needs
@@ -93,20 +177,24 @@ same-length c = search needs
 returns : tie.Need-returns
 unfolding firstRow
 returns c =
-    let start = c .before .before .before .before .before .before in
+    let third = c .before in
+    let second = third .before in
+    let first = second .before in
+    let start = first .before .before .before .before .before in
     four-stores (start .args .table .now) (start .args .g) _ _ _ _ (start .pre .1 .1 .1 .1)
-    ∙ simp (
-      c .first-entry4 .ensures,
-      c .before .first-entry3 .ensures,
-      c .before .before .first-entry2 .ensures,
-      c .before .before .before .first-entry .ensures,
-    )
+    ∙ simp (c .first-entry4 .ensures, third .first-entry3 .ensures, second .first-entry2 .ensures, first .first-entry .ensures)
 
 pub first-row-spec : {M : Type 1} → statement M
 first-row-spec =
     tie.close
     (tie.spec
     static-value-requires
+    sub-first-value
+    add-first-value
+    first-value-requires
+    add-first-value-2
+    add-first-value-3
+    first-value-requires-2
     mul-at
     first-entry-requires
     mul-table

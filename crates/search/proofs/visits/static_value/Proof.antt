@@ -1,4 +1,4 @@
--- `search::visits::static_value` meets its contract: q × g is at most 64 × 120 and p × h at most 64 × 90, so nothing wraps.
+-- `search::visits::static_value` meets its contract: q × g is at most 64 × 120 and p × h at most 64 × 91, so nothing wraps.
 -- Assumes nothing.
 use Prim.Native.Nat.{ℕ, _+_, _*_, _≤_}
 use mathlib.Core.Path.{refl}
@@ -9,12 +9,11 @@ use Rattle.search.specs.Run.{SmallJob}
 use Rattle.search.proofs.visits.static_value.Statement.{statement}
 use Rattle.search.proofs.visits.static_value.Tie as tie
 
-small-value : (job : Job) (g h : ℕ) → SmallJob job → h ≤ 90 → g ≤ job .ceiling
-    → job .weight .q * g + job .weight .p * h ≤ 64 * 120 + 64 * 90
+small-value : (job : Job) (g h : ℕ) → SmallJob job → h ≤ 91 → g ≤ job .ceiling
+    → job .weight .q * g + job .weight .p * h ≤ 64 * 120 + 64 * 91
 small-value job g h small far within =
-    let made : job .weight .q * g ≤ 64 * 120 =
-    mul-le-mul {n₂ = 64} {m₂ = 120} (omega (arith, small .weight, small .most)) (omega (arith, small .ceiling)) in
-    let left : job .weight .p * h ≤ 64 * 90 = mul-le-mul {m₂ = 90} (small .most) far in
+    let made : job .weight .q * g ≤ 64 * 120 = mul-le-mul {n₂ = 64} {m₂ = 120} (omega (arith, small .weight, small .most)) (omega (arith, small .ceiling)) in
+    let left : job .weight .p * h ≤ 64 * 91 = mul-le-mul {m₂ = 91} (small .most) far in
     omega arith
 
 mul-result : tie.Need-mul-result
