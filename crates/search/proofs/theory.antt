@@ -9,6 +9,7 @@ pub mod Successors
 pub mod Stored
 pub mod Turns
 pub mod Ahead
+pub mod Depth
 pub mod Visits
 pub mod Budget
 pub mod Again

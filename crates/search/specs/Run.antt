@@ -93,6 +93,12 @@ pub record Ran (g : ℕ) (o : Outcome) (table moves : List ℕ) (r : Out) (table
 abbrev pub ofJob : Job → List ℕ → ℕ → Outcome
 ofJob job b budget = search (boards (job .shape)) (static (boards (job .shape)) (job .weight)) (job .ceiling) b budget
 
+-- the length of the path that was found; 0 where none was
+abbrev pub foundLength : Out → ℕ
+foundLength (Found n left) = n
+foundLength (Value v left) = 0
+foundLength Spent = 0
+
 -- the visit to the start: how it ended, and the move buffer as it was left
 pub record Ended (o : Outcome) (moves : List ℕ) (r : Out) (moves′ : List ℕ) : Type 0 where
   pub answer : r ≡ told 0 o

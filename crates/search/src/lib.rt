@@ -14,9 +14,11 @@ use board::Shape;
 use board::distance::distance;
 use board::distance::near_table;
 ghost use mathlib.Core.Path.{_≡_};
-ghost use lib.ListN.{length, replicate};
+ghost use mathlib.Core.List.{_++_};
+ghost use Prim.Native.Nat.{_≤_};
+ghost use lib.ListN.{length, take, drop, replicate};
 ghost use Rattle.board.specs.Held.{held, Holds};
-ghost use Rattle.search.specs.Run.{SmallJob, Room, ofJob, Ended, Searched};
+ghost use Rattle.search.specs.Run.{SmallJob, Room, ofJob, Ended, Searched, foundLength};
 
 // The weight p over q.
 pub struct Weight {
@@ -66,7 +68,8 @@ pub fn run(job: Job, start: Position, budget: u32, moves: &mut [u8], table: &mut
     out
 }
 
-// The visit to the start, with F = f and an infinite bound. The one place of a search where a board is summed.
+// The visit to the start, with F = f and an infinite bound, and the path that it found. The one place of a search where a board is
+// summed. The path is gathered in an array of its own: a slice would be handed down as two words more at each depth.
 fn from_start(job: Job, start: Position, budget: u32, moves: &mut [u8], table: &mut [u16]) -> Out
     requires { ⌜ (SmallJob job) × (Holds (job .shape) start) ⌝ }
     requires { ⌜ Room job (now table) (now moves) ⌝ }
@@ -75,7 +78,8 @@ fn from_start(job: Job, start: Position, budget: u32, moves: &mut [u8], table: &
     let near = near_table(job.shape);
     let h = distance(job.shape, start, &near);
     let f = static_value(job, h, 0);
-    visit(
+    let mut path = [0u8; 120];
+    let out = visit(
         job,
         start,
         h,
@@ -86,8 +90,34 @@ fn from_start(job: Job, start: Position, budget: u32, moves: &mut [u8], table: &
         budget,
         &near,
         table,
-        moves,
-    )
+        &mut path,
+    );
+    put_path(found_length(out), &path, moves);
+    out
+}
+
+// The length of the path that was found; 0 where none was.
+fn found_length(out: Out) -> usize
+    ensures { λ r. ⌜ r ≡ foundLength out ⌝ }
+{
+    match out {
+        Out::Found(length, _) => length,
+        Out::Value(_, _) => 0,
+        Out::Spent => 0,
+    }
+}
+
+// Puts the first n moves of the path into the move buffer.
+fn put_path(n: usize, path: &[u8; 120], moves: &mut [u8])
+    requires { ⌜ n ≤ 120 ⌝ }
+    requires { ⌜ (n ≤ length (now path)) × (n ≤ length (now moves)) ⌝ }
+    ensures { λ _. ⌜ now (moves .exit) ≡ take n (now (path .entry)) ++ drop n (now (moves .entry)) ⌝ }
+{
+    let mut i = 0;
+    while i < n {
+        moves[i] = path[i];
+        i += 1;
+    }
 }
 
 fn clear(table: &mut [u16])

@@ -44,7 +44,7 @@ pub fn visit(
     left: u32,
     near: &[u8; 256],
     table: &mut [u16],
-    moves: &mut [u8],
+    moves: &mut [u8; 120],
 ) -> Out
     requires { ⌜ SmallJob job ⌝ }
     requires { ⌜ Kept (job .shape) p h ⌝ }
@@ -77,7 +77,7 @@ fn work(
     left: u32,
     near: &[u8; 256],
     table: &mut [u16],
-    moves: &mut [u8],
+    moves: &mut [u8; 120],
 ) -> Out
     requires { ⌜ SmallJob job ⌝ }
     requires { ⌜ Kept (job .shape) p h ⌝ }

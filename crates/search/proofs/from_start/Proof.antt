@@ -1,7 +1,7 @@
 -- `search::from_start` meets its contract: it is the visit to the start with F = f and an infinite bound, and with the start's own sum
 -- as its distance. Assumes nothing.
 use Prim.Native.Nat.{ℕ}
-use mathlib.Core.Path.{_≡_}
+use mathlib.Core.Path.{_≡_, refl}
 use borrow.Author.Needs.{needs}
 use native.Mathlib.Omega.{arith}
 use Rattle.board.specs.declared.Shape.{Shape}
@@ -11,7 +11,7 @@ use Rattle.board.specs.Held.{held, Holds}
 use Rattle.board.specs.Change.{Kept}
 use Rattle.board.proofs.Laws.{kept-most}
 use Rattle.search.proofs.code.BoardSpace.{valued}
-use Rattle.search.proofs.code.Whole.{started}
+use Rattle.search.proofs.code.Whole.{own-room, path-long, start-short, started}
 use Rattle.search.proofs.from_start.Statement.{statement}
 use Rattle.search.proofs.from_start.Tie as tie
 
@@ -36,7 +36,22 @@ visit-requires c κs =
     let made = summed .before .before in
     let start = made .before .before .before in
     let first = kept _ _ _ (start .pre .0 .1) (summed .distance .ensures) in
-    (start .pre .0 .0, (first, (omega arith, (made .near-table .ensures, start .pre .1))))
+    let room = own-room _ _ _ _ (start .pre .0 .0) (start .pre .1) refl in
+    (start .pre .0 .0, (first, (omega arith, (made .near-table .ensures, room))))
+
+found-length-requires : tie.Need-found-length-requires
+found-length-requires c κs = search needs
+
+put-path-requires : tie.Need-put-path-requires
+put-path-requires c κs =
+    let counted = c .before .before in
+    let called = counted .before .before .before in
+    let summed = called .before .before .before .before .before in
+    let start = summed .before .before .before .before .before in
+    let short = start-short (start .args .job) _ _ _ _ _ _ _ _ _ (called .visit .ensures) (counted .found-length .ensures) in
+    let ran = called .visit .ensures in
+    let long = path-long _ _ _ _ _ (ran .answer) (counted .found-length .ensures) (ran .path) in
+    (omega (arith, start .pre .0 .0 .ceiling), (long, omega (arith, start .pre .1 .path)))
 
 same-length : tie.Need-same-length
 same-length c = search needs
@@ -46,10 +61,12 @@ same-length-2 c = search needs
 
 returns : tie.Need-returns
 returns c =
-    let called = c .before .before .before .before in
+    let put = c .before .before in
+    let counted = put .before .before .before in
+    let called = counted .before .before .before in
     let stored = called .before .before .before .before in
     let f = valued _ _ _ _ _ _ (stored .before .distance .ensures) (stored .static-value .ensures) in
-    started _ _ _ _ _ _ _ _ _ f (called .visit .ensures)
+    started _ _ _ _ _ _ _ _ _ _ _ _ f (called .visit .ensures) (counted .found-length .ensures) (put .put-path .ensures)
 
 pub from-start-spec : {M : Type 1} → statement M
 from-start-spec =
@@ -59,6 +76,8 @@ from-start-spec =
     distance-requires
     static-value-requires
     visit-requires
+    found-length-requires
+    put-path-requires
     same-length
     same-length-2
     returns)

@@ -7,7 +7,7 @@ use mathlib.Core.Bool.{true, false}
 use mathlib.Core.List.{List}
 use native.Mathlib.Nat.{le-of-lt}
 use native.Mathlib.Omega.{arith}
-use lib.ListN.{length, length-set}
+use lib.ListN.{length}
 use borrow.Author.Needs.{needs}
 use borrow.Author.Tests.{eq-eqb, ne-eqb, not-true, not-false}
 use borrow.Fn.Kinds.{In}
@@ -114,7 +114,7 @@ module _ (t : ℕ) where
   visit-returns-2 : visit-lts.Need-returns-2 visit-claims visit-at visit.Post
   visit-returns-2 c =
       let first = c .before in
-      at-goal _ _ _ _ _ _ _ _ _ (first .if1 .left) (at-zero (first .before .before .before) (c .if2 .taken))
+      at-goal _ _ _ _ _ _ _ _ _ (first .if1 .left) (at-zero (first .before .before) (c .if2 .taken))
 
   visit-sub-t14 : visit-lts.Need-sub-t14 visit-claims visit-at visit.Post
   visit-sub-t14 c = omega arith
@@ -123,12 +123,12 @@ module _ (t : ℕ) where
   visit-returns-3 c =
       let tests = c .before .before in
       let first = tests .before in
-      at-ceiling _ _ _ _ _ _ _ _ _ (first .if1 .left) (away (first .before .before .before) (tests .if2 .left)) (c .if3 .taken)
+      at-ceiling _ _ _ _ _ _ _ _ _ (first .if1 .left) (away (first .before .before) (tests .if2 .left)) (c .if3 .taken)
 
   visit-first-row-requires : visit-lts.Need-first-row-requires visit-claims visit-at visit.Post
   visit-first-row-requires c κs =
       let tests = c .before .before .before in
-      let pre = tests .before .before .before .before .pre .1 in
+      let pre = tests .before .before .before .pre .1 in
       (pre .0, ((pre .1 .0, not-0 _ (tests .if2 .left)), ((pre .1 .1 .0 .0, omega arith), (pre .1 .1 .1 .0, row-fits (pre .1 .1 .1 .1) (pre .1 .1 .0 .1)))))
 
   visit-sub-work : visit-lts.Need-sub-work visit-claims visit-at visit.Post
@@ -137,7 +137,7 @@ module _ (t : ℕ) where
   visit-work-requires : visit-lts.Need-work-requires visit-claims visit-at visit.Post
   visit-work-requires c κs =
       let filled = c .before .before .before .before in
-      let start = filled .before .before .before .before .before .before .before .before in
+      let start = filled .before .before .before .before .before .before .before in
       let pre = start .pre .1 in
       let fits = row-fits (pre .1 .1 .1 .1) (pre .1 .1 .0 .1) in
       let isOpen = starts-open (start .args .job) _ _ _ _ _ _ fits (filled .first-row .ensures) (pre .1 .0 .holds .shape) in
@@ -148,20 +148,18 @@ module _ (t : ℕ) where
 
   visit-same-length : visit-lts.Need-same-length visit-claims visit-at visit.Post
   visit-same-length c =
-      let worked = c .before .before .before .before in
-      worked .work .kept .1 .1 .1 .1 .1 .1 .1 .0 ∙ worked .before .before .before .before .before .first-row .kept .1 .1 .1 .1 .1 .1 .1 .0
-
-  visit-same-length-2 : visit-lts.Need-same-length-2 visit-claims visit-at visit.Post
-  visit-same-length-2 c = c .before .before .before .before .work .kept .1 .1 .1 .1 .1 .1 .1 .1 .0
+      let worked = c .before .before in
+      let filled = worked .before .before .before .before .before in
+      worked .work .kept .1 .1 .1 .1 .1 .1 .1 .0 ∙ filled .first-row .kept .1 .1 .1 .1 .1 .1 .1 .0
 
   visit-returns-4 : visit-lts.Need-returns-4 visit-claims visit-at visit.Post
   visit-returns-4 c =
-      let worked = c .before .before .before .before in
+      let worked = c .before .before in
       let filled = worked .before .before .before .before .before in
       let deeper = filled .before .before .if3 .left in
       let tests = filled .before .before .before .before in
       let first = tests .before in
-      let start = first .before .before .before in
+      let start = first .before .before in
       let pre = start .pre .1 in
       works _ _ _ _ _ _ _ _ _ (first .if1 .left) (away start (tests .if2 .left))
       (omega (arith, pre .1 .1 .0 .1, deeper)) (row-fits (pre .1 .1 .1 .1) (pre .1 .1 .0 .1)) _
@@ -194,7 +192,7 @@ module _ (t : ℕ) where
   InSpent = work-lts.After-enum-told work-claims work-at work.Post work-Inv-loop work-μ-loop
 
   abbrev start-of : Head → Start
-  start-of c = c .before .before .before .before .before .before .before
+  start-of c = c .before .before .before .before .before .before
 
   abbrev head-of : Picked → Head
   head-of c = c .before .before
@@ -203,13 +201,13 @@ module _ (t : ℕ) where
   picked-of c = c .before .before .before .before .before .before .before
 
   abbrev found-at : InFound → Called
-  found-at c = c .before .before .before .before .before .before .before
+  found-at c = c .before .before .before .before .before
 
   abbrev value-at : InValue → Called
-  value-at c = c .before .before .before .before .before .before .before .before
+  value-at c = c .before .before .before .before .before .before
 
   abbrev spent-at : InSpent → Called
-  spent-at c = c .before .before .before .before .before .before
+  spent-at c = c .before .before .before .before
 
   -- the buffers as the visit leaves them
   abbrev table-of : Called → List ℕ
@@ -244,12 +242,9 @@ module _ (t : ℕ) where
         rows = c .visit .kept .1 .1 .1 .1 .1 .1 .1 .1 .1 .0;
       }
 
-  -- the buffers keep their lengths, so the move's places are in them
+  -- the table keeps its length, so the move's place is in it
   table-long : (c : Called) → length (table-of c) ≡ length (start-of (head-of (picked-of c)) .args .table .now)
   table-long c = c .visit .kept .1 .1 .1 .1 .1 .1 .1 .1 .1 .0 ∙ head-of (picked-of c) .loop .inv .rows
-
-  moves-long : (c : Called) → length (moves-of c) ≡ length (start-of (head-of (picked-of c)) .args .moves .now)
-  moves-long c = c .visit .kept .1 .1 .1 .1 .1 .1 .1 .1 .1 .1 .0 ∙ ap length (head-of (picked-of c) .loop .inv .path)
 
   move-small : (c : Picked) → c .row-pick .result .step < 4
   move-small c = picked-move _ _ (c .row-pick .ensures)
@@ -268,7 +263,7 @@ module _ (t : ℕ) where
 
   work-row-best-requires : work-lts.Need-row-best-requires work-claims work-at work.Post work-Inv-loop work-μ-loop
   work-row-best-requires c κs =
-      let start = c .before .before .before in
+      let start = c .before .before in
       row-fits (start .pre .1 .1 .1 .1 .1 .0) (le-of-lt (start .pre .1 .1 .1 .0))
 
   work-stops-at-requires : work-lts.Need-stops-at-requires work-claims work-at work.Post work-Inv-loop work-μ-loop
@@ -285,7 +280,7 @@ module _ (t : ℕ) where
   work-loop-holds : work-lts.Need-loop-holds work-claims work-at work.Post work-Inv-loop work-μ-loop
   work-loop-holds c =
       let best = c .before .before in
-      let start = best .before .before .before .before in
+      let start = best .before .before .before in
       begins _ _ _ _ _ _ _ _ (ap (λ (x : Choice). x .value) (best .row-best .ensures))
       (not-false _ (sym (c .before .stops-at .ensures) ∙ c .if1 .left)) (start .pre .1 .1 .1 .1 .1 .1)
 
@@ -337,14 +332,13 @@ module _ (t : ℕ) where
   work-cast-moves : work-lts.Need-cast-moves work-claims work-at work.Post work-Inv-loop work-μ-loop
   work-cast-moves c = omega (arith, move-small (picked-of (found-at c)))
 
-  work-slice-write-moves : work-lts.Need-slice-write-moves work-claims work-at work.Post work-Inv-loop work-μ-loop
-  work-slice-write-moves c = omega (arith, path-place (picked-of (found-at c)), moves-long (found-at c))
+  work-element-write-moves : work-lts.Need-element-write-moves work-claims work-at work.Post work-Inv-loop work-μ-loop
+  work-element-write-moves c =
+      let pre = start-of (head-of (picked-of (found-at c))) .pre .1 in
+      omega (arith, pre .0 .ceiling, pre .1 .1 .0)
 
   work-same-length-2 : work-lts.Need-same-length-2 work-claims work-at work.Post work-Inv-loop work-μ-loop
   work-same-length-2 c = table-long (found-at c)
-
-  work-same-length-3 : work-lts.Need-same-length-3 work-claims work-at work.Post work-Inv-loop work-μ-loop
-  work-same-length-3 c = simp length-set (moves-long (found-at c))
 
   work-returns-2 : work-lts.Need-returns-2 work-claims work-at work.Post work-Inv-loop work-μ-loop
   work-returns-2 c =
@@ -362,11 +356,8 @@ module _ (t : ℕ) where
   work-lesser-requires-2 : work-lts.Need-lesser-requires-2 work-claims work-at work.Post work-Inv-loop work-μ-loop
   work-lesser-requires-2 c κs = tt
 
-  work-same-length-4 : work-lts.Need-same-length-4 work-claims work-at work.Post work-Inv-loop work-μ-loop
-  work-same-length-4 c = table-long (value-at (c .before .before))
-
-  work-same-length-5 : work-lts.Need-same-length-5 work-claims work-at work.Post work-Inv-loop work-μ-loop
-  work-same-length-5 c = moves-long (value-at (c .before .before))
+  work-same-length-3 : work-lts.Need-same-length-3 work-claims work-at work.Post work-Inv-loop work-μ-loop
+  work-same-length-3 c = table-long (value-at (c .before .before))
 
   work-returns-3 : work-lts.Need-returns-3 work-claims work-at work.Post work-Inv-loop work-μ-loop
   work-returns-3 c =
@@ -404,11 +395,8 @@ module _ (t : ℕ) where
   work-enum-told : work-lts.Need-enum-told work-claims work-at work.Post work-Inv-loop work-μ-loop
   work-enum-told c = search needs
 
-  work-same-length-6 : work-lts.Need-same-length-6 work-claims work-at work.Post work-Inv-loop work-μ-loop
-  work-same-length-6 c = table-long (spent-at c)
-
-  work-same-length-7 : work-lts.Need-same-length-7 work-claims work-at work.Post work-Inv-loop work-μ-loop
-  work-same-length-7 c = moves-long (spent-at c)
+  work-same-length-4 : work-lts.Need-same-length-4 work-claims work-at work.Post work-Inv-loop work-μ-loop
+  work-same-length-4 c = table-long (spent-at c)
 
   work-returns-4 : work-lts.Need-returns-4 work-claims work-at work.Post work-Inv-loop work-μ-loop
   work-returns-4 c = spent-ends _ _ _ _ _ _ _ _ _ _ _ _ _ _ _ (visit-made (spent-at c)) (c .enum-told .given .1)
@@ -426,7 +414,6 @@ pub +visit+work-spec : {M : Type 1} → statement M
     (visit-sub-work t)
     (visit-work-requires t)
     (visit-same-length t)
-    (visit-same-length-2 t)
     (visit-returns-4 t))
     (λ t. work-lts.spec (work-claims t) (work-at t) work.Post work-Inv-loop work-μ-loop
     (work-row-best-requires t)
@@ -442,15 +429,13 @@ pub +visit+work-spec : {M : Type 1} → statement M
     (work-visit-requires t)
     (work-enum-known-length t)
     (work-cast-moves t)
-    (work-slice-write-moves t)
+    (work-element-write-moves t)
     (work-same-length-2 t)
-    (work-same-length-3 t)
     (work-returns-2 t)
     (work-enum-known-v t)
     (work-stops-at-requires-2 t)
     (work-lesser-requires-2 t)
-    (work-same-length-4 t)
-    (work-same-length-5 t)
+    (work-same-length-3 t)
     (work-returns-3 t)
     (work-mul-table t)
     (work-add-table t)
@@ -459,6 +444,5 @@ pub +visit+work-spec : {M : Type 1} → statement M
     (work-loop-less t)
     (work-loop-again t)
     (work-enum-told t)
-    (work-same-length-6 t)
-    (work-same-length-7 t)
+    (work-same-length-4 t)
     (work-returns-4 t))
