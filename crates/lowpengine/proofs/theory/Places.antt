@@ -31,7 +31,8 @@ bad-place byte i = go (ltb 3 byte)
     go false = refl
 
 -- of the tests of the list
-list-place : (f : Fields) (short : Bool) (why : PlanRefusal) → f .ceiling ≤ 120 → FirstToHold (listTests f short) why → refusalPlace why ≤ 120
+list-place : (f : Fields) (short : Bool) (why : PlanRefusal) → f .ceiling ≤ 120 → FirstToHold (listTests f short) why
+    → refusalPlace why ≤ 120
 unfolding listTests
 list-place f short why most (here long) = omega arith
 list-place f short why most (later fits (here bad)) =

@@ -50,7 +50,8 @@ pub start-short : (job : Job) (b : List ℕ) (f budget n : ℕ) (table path tabl
     → Ran 0 (visited job b 4 0 f infinity budget) table path r table′ path′ → n ≡ foundLength r → n ≤ job .ceiling
 start-short job b f budget n table path table′ path′ r ran is =
     let deep =
-    visit-depth (boards (job .shape)) (static (boards (job .shape)) (job .weight)) (job .ceiling) (job .ceiling - 0) 0 b 4 f infinity budget in
+    visit-depth (boards (job .shape)) (static (boards (job .shape)) (job .weight)) (job .ceiling) (job .ceiling - 0) 0 b 4 f infinity
+    budget in
     omega (arith, found-short (job .ceiling - 0) n (visited job b 4 0 f infinity budget) r deep (ran .answer) is)
 
 -- an array of 120 moves has room for every path

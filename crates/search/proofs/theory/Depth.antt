@@ -31,5 +31,6 @@ visit-depth S f ceiling zero g s last stored bound (suc left) =
     goal-ends (λ ms rest. length ms ≤ 0) (λ v rest. Unit {0}) (S .atGoal s) left _ (λ e. omega arith) (λ e. tt)
 visit-depth S f ceiling (suc deeper) g s last stored bound (suc left) =
     goal-ends (λ ms rest. length ms ≤ suc deeper) (λ v rest. Unit {0}) (S .atGoal s) left _ (λ e. omega arith)
-    (λ e. work-depth (λ m stored′ bound′ rest. visit S f ceiling deeper (suc g) (S .makes s m) m stored′ bound′ rest) deeper (suc left) bound
-    (λ m stored′ bound′ rest. visit-depth S f ceiling deeper (suc g) (S .makes s m) m stored′ bound′ rest) (firstRow S f ceiling g s last stored) left)
+    (λ e. work-depth (λ m stored′ bound′ rest. visit S f ceiling deeper (suc g) (S .makes s m) m stored′ bound′ rest) deeper
+    (suc left) bound (λ m stored′ bound′ rest. visit-depth S f ceiling deeper (suc g) (S .makes s m) m stored′ bound′ rest)
+    (firstRow S f ceiling g s last stored) left)

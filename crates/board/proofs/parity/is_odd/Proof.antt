@@ -50,7 +50,8 @@ unfolding inversions
 all-counted b n sum i s past =
     sym (add-zero sum) ∙ ap (λ (k : List ℕ). sum + inversions k) (sym (drop-of-length-le b {i = i} (omega (arith, s .long)))) ∙ s .whole
 
-answered : (s : Shape) (p : Position) (n sum i : ℕ) → Holds s p → n ≡ cells s → Summed (digits n (p .cells)) n sum i → n ≤ i → eqb ((sum + p .empty / s .width + p .empty % s .width) % 2) 1 ≡ isOdd s (held s p)
+answered : (s : Shape) (p : Position) (n sum i : ℕ) → Holds s p → n ≡ cells s → Summed (digits n (p .cells)) n sum i → n ≤ i
+    → eqb ((sum + p .empty / s .width + p .empty % s .width) % 2) 1 ≡ isOdd s (held s p)
 unfolding isOdd paritySum
 answered s p n sum i holds count summed past =
     ap (λ (k : ℕ). eqb (k % 2) 1)
@@ -98,10 +99,14 @@ lower-after-requires : tie.Need-lower-after-requires Inv-loop μ-loop
 lower-after-requires c κs = (c .loop-test .taken, omega (arith, cells-within (c .before .before .before .pre .shape)))
 
 add-sum : tie.Need-add-sum Inv-loop μ-loop
-add-sum c = omega (arith, cells-within (c .before .before .before .before .pre .shape))
+add-sum c =
+    let start = c .before .before .before .before in
+    omega (arith, cells-within (start .pre .shape))
 
 add-i : tie.Need-add-i Inv-loop μ-loop
-add-i c = omega (arith, cells-within (c .before .before .before .before .pre .shape))
+add-i c =
+    let start = c .before .before .before .before in
+    omega (arith, cells-within (start .pre .shape))
 
 loop-less : tie.Need-loop-less Inv-loop μ-loop
 loop-less c = omega arith

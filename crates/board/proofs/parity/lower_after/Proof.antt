@@ -35,7 +35,8 @@ next b j x below =
     ap (λ (k : List ℕ). lower x k) (drop-cons b j 0 below)
     ∙ ap (λ (k : ℕ). cond (ltb (getD b j 0) x) 1 0 + lower x (drop k b)) (sym (add-one j))
 
-one-more : (b : List ℕ) (n i x count j k : ℕ) → Counted b n i x count j → j < n → k ≡ cond (ltb (getD b j 0) x) 1 0 → Counted b n i x (count + k) (j + 1)
+one-more : (b : List ℕ) (n i x count j k : ℕ) → Counted b n i x count j → j < n → k ≡ cond (ltb (getD b j 0) x) 1 0
+    → Counted b n i x (count + k) (j + 1)
 one-more b n i x count j k c below is =
     record {
       long = c .long;

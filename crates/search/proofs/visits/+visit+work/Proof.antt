@@ -129,7 +129,8 @@ module _ (t : ℕ) where
   visit-first-row-requires c κs =
       let tests = c .before .before .before in
       let pre = tests .before .before .before .pre .1 in
-      (pre .0, ((pre .1 .0, not-0 _ (tests .if2 .left)), ((pre .1 .1 .0 .0, omega arith), (pre .1 .1 .1 .0, row-fits (pre .1 .1 .1 .1) (pre .1 .1 .0 .1)))))
+      let fits = row-fits (pre .1 .1 .1 .1) (pre .1 .1 .0 .1) in
+      (pre .0, ((pre .1 .0, not-0 _ (tests .if2 .left)), ((pre .1 .1 .0 .0, omega arith), (pre .1 .1 .1 .0, fits))))
 
   visit-sub-work : visit-lts.Need-sub-work visit-claims visit-at visit.Post
   visit-sub-work c = omega arith

@@ -64,7 +64,10 @@ first-entry-requires c κs =
       (
         (start .pre .1 .1 .0 .0, omega arith),
         (
-          (value-is (a .job) (a .g) (a .h) _ _ _ _ f (close .first-value .ensures), value-is (a .job) (a .g) (a .h) _ _ _ _ f (far .first-value2 .ensures)),
+          (
+            value-is (a .job) (a .g) (a .h) _ _ _ _ f (close .first-value .ensures),
+            value-is (a .job) (a .g) (a .h) _ _ _ _ f (far .first-value2 .ensures),
+          ),
           start .pre .1 .1 .1 .0,
         ),
       ),
@@ -88,7 +91,10 @@ first-entry-requires-2 c κs =
       (
         (start .pre .1 .1 .0 .0, omega arith),
         (
-          (value-is (a .job) (a .g) (a .h) _ _ _ _ f (close .first-value .ensures), value-is (a .job) (a .g) (a .h) _ _ _ _ f (far .first-value2 .ensures)),
+          (
+            value-is (a .job) (a .g) (a .h) _ _ _ _ f (close .first-value .ensures),
+            value-is (a .job) (a .g) (a .h) _ _ _ _ f (far .first-value2 .ensures),
+          ),
           start .pre .1 .1 .1 .0,
         ),
       ),
@@ -117,7 +123,10 @@ first-entry-requires-3 c κs =
       (
         (start .pre .1 .1 .0 .0, omega arith),
         (
-          (value-is (a .job) (a .g) (a .h) _ _ _ _ f (close .first-value .ensures), value-is (a .job) (a .g) (a .h) _ _ _ _ f (far .first-value2 .ensures)),
+          (
+            value-is (a .job) (a .g) (a .h) _ _ _ _ f (close .first-value .ensures),
+            value-is (a .job) (a .g) (a .h) _ _ _ _ f (far .first-value2 .ensures),
+          ),
           start .pre .1 .1 .1 .0,
         ),
       ),
@@ -150,7 +159,10 @@ first-entry-requires-4 c κs =
       (
         (start .pre .1 .1 .0 .0, omega arith),
         (
-          (value-is (a .job) (a .g) (a .h) _ _ _ _ f (close .first-value .ensures), value-is (a .job) (a .g) (a .h) _ _ _ _ f (far .first-value2 .ensures)),
+          (
+            value-is (a .job) (a .g) (a .h) _ _ _ _ f (close .first-value .ensures),
+            value-is (a .job) (a .g) (a .h) _ _ _ _ f (far .first-value2 .ensures),
+          ),
           start .pre .1 .1 .1 .0,
         ),
       ),

@@ -12,7 +12,8 @@ use Rattle.search.proofs.visits.static_value.Tie as tie
 small-value : (job : Job) (g h : ℕ) → SmallJob job → h ≤ 91 → g ≤ job .ceiling
     → job .weight .q * g + job .weight .p * h ≤ 64 * 120 + 64 * 91
 small-value job g h small far within =
-    let made : job .weight .q * g ≤ 64 * 120 = mul-le-mul {n₂ = 64} {m₂ = 120} (omega (arith, small .weight, small .most)) (omega (arith, small .ceiling)) in
+    let made : job .weight .q * g ≤ 64 * 120 =
+    mul-le-mul {n₂ = 64} {m₂ = 120} (omega (arith, small .weight, small .most)) (omega (arith, small .ceiling)) in
     let left : job .weight .p * h ≤ 64 * 91 = mul-le-mul {m₂ = 91} (small .most) far in
     omega arith
 
