@@ -41,7 +41,7 @@ fn thousands(number: f64) -> String {
     text
 }
 
-pub fn text(all: &[Timed], processor: &str, rounds: usize) -> String {
+pub fn text(all: &[Timed], processor: &str, earlier: &str, rounds: usize) -> String {
     let mut to = String::new();
     write!(
         to,
@@ -57,6 +57,7 @@ pub fn text(all: &[Timed], processor: &str, rounds: usize) -> String {
     )
     .unwrap();
     shapes(&mut to, all);
+    beside(&mut to, all, earlier);
     growth(&mut to, all);
     to.push_str(WHERE);
     boards(&mut to, all);
@@ -65,10 +66,11 @@ pub fn text(all: &[Timed], processor: &str, rounds: usize) -> String {
 
 /// Counted once with callgrind, by address: what a count of instructions shows doesn't change from run to run.
 const WHERE: &str = "\n## Where the time goes\n\n\
-    A visit of the library takes some 555 instructions on a 4 by 4 board (weight 3 over 1, counted with callgrind). Byte loads and \
-    additions, nearly all of them for the sums of the distance (one for the visited position and one for each successor that is \
-    made), are some 170 of them. The rest is making positions, which are copied by value, choosing in the row, and the call itself. \
-    The sums go when the distance travels with the move; until then every position made is summed anew, in both programs.\n";
+    A visit of the library takes some 286 instructions on a 4 by 4 board (weight 3 over 1, the last but two of the list below, counted \
+    with callgrind). Before request E2 it took some 553: since then the distance travels with the move, a held board is one number, and \
+    a row's last visit is known as such beforehand. What is left goes to making positions, each once for its first value and again \
+    where it is visited, to choosing in the row, and to the call itself. Plain Rust still sums the distance of every position that it \
+    makes.\n";
 
 fn shapes(to: &mut String, all: &[Timed]) {
     to.push_str("## Visits per second\n\n");
@@ -86,6 +88,37 @@ fn shapes(to: &mut String, all: &[Timed]) {
     row("all", sum(all.iter()));
 }
 
+/// The shapes once more, with an earlier archive where one was measured.
+fn beside(to: &mut String, all: &[Timed], name: &str) {
+    let both: Vec<_> = all.iter().filter_map(|board| board.earlier.map(|earlier| (board, earlier))).collect();
+    if both.is_empty() {
+        return;
+    }
+    let others = both.iter().filter(|(_, earlier)| !earlier.same).count();
+    write!(
+        to,
+        "\n## Beside {name}\n\n\
+         Its archive in the same run, on the same boards. Answer, visits or plan are others on {others} of the {} boards.\n\n\
+         | Shape | Library, visits/s | Earlier, visits/s | Times as fast |\n|---|---:|---:|---:|\n",
+        both.len()
+    )
+    .unwrap();
+    for side in [Some((3, 3)), Some((4, 3)), Some((3, 4)), Some((4, 4)), None] {
+        let (mut visits, mut seconds, mut earlier_visits, mut earlier_seconds) = (0.0, 0.0, 0.0, 0.0);
+        for (board, earlier) in &both {
+            if side.map_or(true, |side| side == (board.job.width, board.job.height)) {
+                visits += board.visits as f64;
+                seconds += board.library;
+                earlier_visits += earlier.visits as f64;
+                earlier_seconds += earlier.seconds;
+            }
+        }
+        let (now, then) = (visits / seconds, earlier_visits / earlier_seconds);
+        let shape = side.map_or("all".to_string(), |(width, height)| format!("{width} by {height}"));
+        writeln!(to, "| {shape} | {} | {} | {:.2} |", thousands(now), thousands(then), earlier_seconds / seconds).unwrap();
+    }
+}
+
 fn growth(to: &mut String, all: &[Timed]) {
     to.push_str("\n## How time grows with visits\n\n");
     to.push_str("| Visits | Boards | Library, ns a visit | Plain Rust, ns a visit |\n|---|---:|---:|---:|\n");
@@ -99,7 +132,7 @@ fn growth(to: &mut String, all: &[Timed]) {
     write!(
         to,
         "\nFitted over all boards, time grows as visits to the power {library:.2} for the library and {second:.2} for plain \
-         Rust. A visit's time depends on the shape: a larger one has more cells to sum and more successors.\n"
+         Rust. In plain Rust a visit's time depends on the shape: a larger one has more cells to sum and more successors.\n"
     )
     .unwrap();
 }
