@@ -1,6 +1,7 @@
 -- `planner::call::answer_of` meets its contract: one answer for each end of the search. Assumes nothing.
 use borrow.Author.Needs.{needs}
 use mathlib.Core.Path.{subst, sym, ap}
+use native.Mathlib.Omega.{arith}
 use Rattle.planner.specs.Ends.{LeftWithin, answerOf}
 use Rattle.planner.proofs.call.answer_of.Statement.{statement}
 use Rattle.planner.proofs.call.answer_of.Tie as tie
@@ -9,7 +10,10 @@ enum-known-out : tie.Need-enum-known-out
 enum-known-out c = search needs
 
 sub-t7 : tie.Need-sub-t7
-sub-t7 c = subst (LeftWithin _) (c .before .out .given .1) (c .before .before .before .pre)
+sub-t7 c =
+    let entry = c .before .before .before in
+    let within = subst (LeftWithin (entry .args .budget)) (c .before .out .given .1) (entry .pre) in
+    omega arith
 
 enum-known-out-2 : tie.Need-enum-known-out-2
 enum-known-out-2 c = search needs
