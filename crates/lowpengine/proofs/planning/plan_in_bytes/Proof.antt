@@ -68,10 +68,10 @@ mul-used : tie.Need-mul-used
 mul-used c = omega (arith, within c, at-start c .good)
 
 slice-relend-prefix-clear : tie.Need-slice-relend-prefix-clear
-slice-relend-prefix-clear c = within c
+slice-relend-prefix-clear c = omega (arith, within c)
 
 slice-aggregate-clear : tie.Need-slice-aggregate-clear
-slice-aggregate-clear c = sym (length-take-le _ _ (within (c .before)))
+slice-aggregate-clear c = sym (length-take-le _ _ (omega (arith, within (c .before))))
 
 clear-requires : tie.Need-clear-requires
 clear-requires c κs = search needs
