@@ -1,5 +1,5 @@
 /*
- * lowpengine.h: planner, player and plan records for sliding tray cabinets of 2 by 2 to 4 by 4 cells.
+ * lowpengine.h: planner, player, plan records and a reachability test for sliding tray cabinets of 2 by 2 to 4 by 4 cells.
  *
  * Link with liblowpengine.a. All state is in the arguments: any number of threads may call at the same time, each with buffers
  * of its own. No entry allocates, prints, keeps a pointer or fails to return. 64 KiB of stack are enough for any call.
@@ -37,10 +37,10 @@ enum lowpengine_move { LOWPENGINE_UP = 0, LOWPENGINE_LEFT = 1, LOWPENGINE_RIGHT 
 /*
  * What an answer says: 0 if it was done, else why it was refused. Each number has one name, whichever entry answers it, so one
  * switch can serve all entries. The planner entries answer 0 to 11; lowpengine_play answers 0, 1 to 4, 8, 13 and 14;
- * lowpengine_write_record answers 0, 1 to 8, 13, 14, 21 and 22.
+ * lowpengine_write_record answers 0, 1 to 8, 13, 14, 21 and 22; lowpengine_reachable answers 0, 1 to 4 and 9.
  */
 enum lowpengine_result {
-    LOWPENGINE_DONE = 0,            /* not refused: a plan was found; every move was played; the record was written */
+    LOWPENGINE_DONE = 0,            /* not refused: a plan was found; every move was played; the record was written; not 9 */
     LOWPENGINE_BAD_SHAPE = 1,       /* width or height is not 2, 3 or 4 */
     LOWPENGINE_BAD_LENGTH = 2,      /* the board has not n bytes */
     LOWPENGINE_BAD_VALUE = 3,       /* a byte of the board is n or more; the cell is the first such */
@@ -133,10 +133,21 @@ uint64_t lowpengine_write_record(uint32_t width, uint32_t height, const uint8_t 
                                  uint32_t p, uint32_t q, uint32_t visits, const uint8_t *moves, size_t moves_len, uint8_t *out,
                                  size_t out_len);
 
+/*
+ * Tells whether the planner would answer 9 for the board, without planning: one pass over its cells, with at most n - 1
+ * exchanges on a copy. It is meant for each key press.
+ *
+ * Tested in this order: 1 to 4 as above, then 9: no list of moves, however long, leads from the board to the goal. 0 promises
+ * only that the planner would not answer 9, whatever else it is given: nothing of a plan within a ceiling or a budget.
+ *
+ * The answer is taken apart by lowpengine_number, and lowpengine_cell for the cell of 3 and 4.
+ */
+uint64_t lowpengine_reachable(uint32_t width, uint32_t height, const uint8_t *board, size_t board_len);
+
 /* Of any answer: LOWPENGINE_DONE or the refusal. */
 static inline enum lowpengine_result lowpengine_number(uint64_t answer) { return (enum lowpengine_result)(answer & 0xff); }
 
-/* Of a plan answer: the cell of 3 and 4, else 0. */
+/* Of a plan answer, and of a reachability test: the cell of 3 and 4, else 0. */
 static inline uint32_t lowpengine_cell(uint64_t answer) { return (uint32_t)(answer >> 8 & 0xff); }
 
 /* Of a plan answer: the moves in the plan, 0 for a refusal. */

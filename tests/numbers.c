@@ -60,6 +60,19 @@ static const char *record_case(uint64_t answer) {
     }
 }
 
+/* Of the reachability test. */
+static const char *reach_case(uint64_t answer) {
+    switch (lowpengine_number(answer)) {
+    case LOWPENGINE_DONE: return "not ruled out";
+    case LOWPENGINE_BAD_SHAPE: return "shape";
+    case LOWPENGINE_BAD_LENGTH: return "length";
+    case LOWPENGINE_BAD_VALUE: return lowpengine_cell(answer) == 3 ? "value" : "value of another cell";
+    case LOWPENGINE_REPEATED_VALUE: return lowpengine_cell(answer) == 3 ? "repeated" : "repeated at another cell";
+    case LOWPENGINE_UNREACHABLE: return "unreachable";
+    default: return "no answer of the reachability test";
+    }
+}
+
 /* Of any entry, without a default: the compiler asks for every name that the header has. */
 static int number_of(uint64_t answer) {
     switch (lowpengine_number(answer)) {
@@ -110,6 +123,14 @@ static void play(uint32_t width, size_t len, uint8_t last, uint8_t move, size_t 
     board[3] = last;
     uint64_t answer = lowpengine_play(width, 2, board, len, &move, 1, out, room);
     expect(play_case(answer), wanted, number_of(answer), number);
+}
+
+/* The board 1 0 2 3 unless its last byte is another. */
+static void reach(uint32_t width, size_t len, uint8_t last, const char *wanted, int number) {
+    uint8_t board[] = {1, 0, 2, 3, 0};
+    board[3] = last;
+    uint64_t answer = lowpengine_reachable(width, 2, board, len);
+    expect(reach_case(answer), wanted, number_of(answer), number);
 }
 
 /* The board 1 3 2 0 and two moves, up and left unless the second is another. A record of it has 17 bytes. */
@@ -177,6 +198,14 @@ int main(void) {
     record(2, 4, 0, 2, 3, 1, LOWPENGINE_DOWN, 17, "not solved", 22);
     longest(LOWPENGINE_RECORD_BYTES, "longest record", 0);
     longest(LOWPENGINE_RECORD_BYTES - 1, "short", 8);
+
+    reach(2, 4, 3, "not ruled out", 0);
+    reach(5, 4, 3, "shape", 1);
+    reach(2, 5, 3, "length", 2);
+    reach(2, 4, 4, "value", 3);
+    reach(2, 4, 2, "repeated", 4);
+    answer = lowpengine_reachable(2, 2, odd, sizeof odd);
+    expect(reach_case(answer), "unreachable", number_of(answer), 9);
     printf("%d calls, each to the case of its number\n", cases - wrong);
     return wrong != 0;
 }

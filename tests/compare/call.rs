@@ -14,6 +14,7 @@ pub enum Entry {
     PlanShort = 1,
     Play = 2,
     WriteRecord = 3,
+    Reachable = 4,
 }
 
 /// Where a slice lies in the memory. A null one is empty and passed as a null pointer.
@@ -25,7 +26,7 @@ pub struct Part {
 }
 
 /// `parts` are board, moves and table of a plan; board, moves and output of a play and of a record, whose visits stand as the
-/// budget. A number that an entry lacks is 0.
+/// budget. A number that an entry lacks is 0, and a part that it lacks is empty.
 #[derive(Clone)]
 pub struct Call {
     pub entry: Entry,
@@ -80,6 +81,11 @@ impl Call {
         call
     }
 
+    /// A call of the reachability test, to which the board alone is lent.
+    pub fn reachable(random: &Random, width: u32, height: u32, board: &[u8]) -> Call {
+        Call { entry: Entry::Reachable, ..Call::play(random, width, height, board, &[], 0) }
+    }
+
     pub fn part(&self, number: usize) -> &[u8] {
         &self.memory[self.parts[number].at..][..self.parts[number].len]
     }
@@ -95,6 +101,7 @@ impl Call {
             Entry::PlanShort => entries::plan_short(&order, &mut moves, &mut third),
             Entry::Play => entries::play(width, height, board, &moves, &mut third),
             Entry::WriteRecord => entries::write_record(&order, &moves, &mut third),
+            Entry::Reachable => entries::reachable(width, height, board),
         };
         let mut memory = self.memory.clone();
         memory[self.parts[1].at..][..moves.len()].copy_from_slice(&moves);
@@ -143,6 +150,7 @@ impl fmt::Display for Call {
                 write!(to, "ceiling {ceiling}, weight {p}/{q}, visits {budget}, ")?;
                 return write!(to, "moves {:?}, {} output bytes of a record", self.part(1), third.len);
             }
+            Entry::Reachable => return write!(to, "the reachability test"),
         }
         write!(to, "{} move bytes, {} table bytes", moves.len, third.len)
     }

@@ -11,8 +11,8 @@ const BATCH: usize = 2_000;
 /// Differences that are printed before a worker gives up.
 const MOST_PRINTED: usize = 5;
 
-/// What was compared: calls and claims by kind, the library's visits, and the numbers that it answered to plans, to plays and to
-/// records.
+/// What was compared: calls and claims by kind, the library's visits, and the numbers that it answered to plans, to plays, to
+/// records and to reachability tests.
 #[derive(Default)]
 pub struct Tally {
     pub kinds: BTreeMap<&'static str, usize>,
@@ -24,6 +24,7 @@ pub struct Tally {
     pub plans: BTreeMap<u8, usize>,
     pub plays: BTreeMap<u8, usize>,
     pub records: BTreeMap<u8, usize>,
+    pub reaches: BTreeMap<u8, usize>,
     pub differences: usize,
 }
 
@@ -36,6 +37,7 @@ impl Tally {
         merge(&mut self.plans, other.plans);
         merge(&mut self.plays, other.plays);
         merge(&mut self.records, other.records);
+        merge(&mut self.reaches, other.reaches);
         self.calls += other.calls;
         self.visits += other.visits;
         self.unclaimed += other.unclaimed;
@@ -100,6 +102,7 @@ impl<'a> Checker<'a> {
             Entry::Plan | Entry::PlanShort => (&mut self.tally.plans, answer >> 32),
             Entry::Play => (&mut self.tally.plays, 0),
             Entry::WriteRecord => (&mut self.tally.records, 0),
+            Entry::Reachable => (&mut self.tally.reaches, 0),
         };
         self.tally.visits += visits;
         *numbers.entry((answer & 0xff) as u8).or_default() += 1;
@@ -136,7 +139,7 @@ impl<'a> Checker<'a> {
 fn shown(call: &Call, answer: u64) -> String {
     let number = answer & 0xff;
     match call.entry {
-        Entry::Play | Entry::WriteRecord => format!("number {number} with {}", answer >> 8),
+        Entry::Play | Entry::WriteRecord | Entry::Reachable => format!("number {number} with {}", answer >> 8),
         _ => format!(
             "number {number}, cell {}, length {}, visits {}",
             answer >> 8 & 0xff,

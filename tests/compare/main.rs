@@ -15,6 +15,7 @@ mod damage;
 mod engine;
 mod plays;
 mod random;
+mod reaches;
 mod records;
 mod small;
 mod vectors;
@@ -49,6 +50,8 @@ fn tasks(vectors: Option<PathBuf>, share: usize) -> Vec<Task> {
         tasks.push(Box::new(move |checker| wild::run(checker, part, 2_500usize.div_ceil(share))));
         tasks.push(Box::new(move |checker| plays::run(checker, part, 180usize.div_ceil(share))));
         tasks.push(Box::new(move |checker| records::run(checker, part, 60usize.div_ceil(share))));
+        tasks.push(Box::new(move |checker| reaches::lists(checker, part, PARTS, share)));
+        tasks.push(Box::new(move |checker| reaches::run(checker, part, 900usize.div_ceil(share))));
     }
     let small = [(2, 2, 1), (2, 3, 1), (3, 2, 1), (2, 4, 9), (4, 2, 9), (3, 3, 61)];
     let large = [(3, 4, 1), (4, 3, 1), (4, 4, 1)];
@@ -98,7 +101,9 @@ fn missing(tally: &Tally) -> Vec<String> {
     let plays = numbers.filter(|number| !tally.plays.contains_key(number)).map(|number| format!("play {number}"));
     let numbers = (0..=8).chain([13, 14, 21, 22]);
     let records = numbers.filter(|number| !tally.records.contains_key(number)).map(|number| format!("record {number}"));
-    plans.chain(plays).chain(records).collect()
+    let numbers = [0, 1, 2, 3, 4, 9].into_iter();
+    let reaches = numbers.filter(|number| !tally.reaches.contains_key(number)).map(|number| format!("reach {number}"));
+    plans.chain(plays).chain(records).chain(reaches).collect()
 }
 
 fn main() {
@@ -121,6 +126,7 @@ fn main() {
     println!("answers to plans: {} ({} visits)", listed(&tally.plans), tally.visits);
     println!("answers to plays: {}", listed(&tally.plays));
     println!("answers to records: {}", listed(&tally.records));
+    println!("answers to reachability tests: {}", listed(&tally.reaches));
     println!("no claim on legal lists, the budget was spent: {}", tally.unclaimed);
     println!("damaged job texts written: {}", damage::write(damaged.as_ref()));
     if share > 1 {

@@ -7,15 +7,15 @@ use crate::random::Random;
 use second::board::{Board, Shape};
 use second::search::{self, End};
 
-const SHAPES: [Shape; 3] = [Shape { width: 2, height: 2 }, Shape { width: 2, height: 3 }, Shape { width: 3, height: 2 }];
+pub const SHAPES: [Shape; 3] = [Shape { width: 2, height: 2 }, Shape { width: 2, height: 3 }, Shape { width: 3, height: 2 }];
 
 /// How many lists there are over 0 .. n, so with one value that is too high.
-fn count(shape: Shape) -> usize {
+pub fn count(shape: Shape) -> usize {
     (shape.cells() + 1).pow(shape.cells() as u32)
 }
 
 /// The list with a given number.
-fn list(shape: Shape, mut number: usize) -> Vec<u8> {
+pub fn list(shape: Shape, mut number: usize) -> Vec<u8> {
     let mut cells = vec![0; shape.cells()];
     for cell in cells.iter_mut() {
         *cell = (number % (shape.cells() + 1)) as u8;

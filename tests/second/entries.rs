@@ -1,5 +1,6 @@
 //! The calls as C sees them: a table of bytes, low byte first, and answers packed into 64 bits.
 
+use crate::board;
 use crate::planner::{self, Answer, Order};
 use crate::player::{self, Played};
 use crate::records::{self, Written};
@@ -43,5 +44,14 @@ pub fn write_record(order: &Order, moves: &[u8], out: &mut [u8]) -> u64 {
     match records::write(order, moves, out) {
         Written::Record { length } => (length as u64) << 8,
         Written::Refused { number, place } => number as u64 | (place as u64).min(HIGHEST_PLACE) << 8,
+    }
+}
+
+/// Tests 1 to 4 and then 9, by counting pairs; the number, then the cell from bit 8.
+pub fn reachable(width: u32, height: u32, board: &[u8]) -> u64 {
+    match board::read(width, height, board) {
+        Ok((shape, board)) if board.is_odd(shape) => 9,
+        Ok(_) => 0,
+        Err(fault) => fault.number() as u64 | (fault.cell() as u64) << 8,
     }
 }

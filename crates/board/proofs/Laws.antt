@@ -50,6 +50,7 @@ pub use Rattle.board.proofs.theory.Digits.{length-digits, at-digits}
 pub use Rattle.board.proofs.theory.Inversions.{swap-turns-inversions}
 pub use Rattle.board.proofs.theory.Parities.{goal-inversions, goal-not-odd, move-keeps-parity, list-keeps-parity}
 pub use Rattle.board.proofs.theory.Parities.{odd-never-solved}
+pub use Rattle.board.proofs.theory.Orders.{ordered-parity}
 -- tests 1 to 4
 pub use Rattle.board.proofs.theory.Faultless.{none-too-large, too-large-within, none-repeats, repeat-within, sound-means}
 pub use Rattle.board.proofs.theory.Faultless.{faultless-sound, fault-cell-inside, faulty-means, faulty-given, none-faulty, board-of}

@@ -1,5 +1,5 @@
 -- About the definitions alone, each file resting on those above it: firsts and the pigeonhole, shapes, boards, moves, distances,
--- the parity of test 9, tests 1 to 4. Assumes nothing.
+-- the parity of test 9 and of exchanges, tests 1 to 4. Assumes nothing.
 pub mod Firsts
 pub mod Digits
 pub mod TestsInOrder
@@ -15,4 +15,5 @@ pub mod Changes
 pub mod Keeping
 pub mod Inversions
 pub mod Parities
+pub mod Orders
 pub mod Faultless

@@ -7,6 +7,7 @@ pub mod Moves
 pub mod Lists
 pub mod Distance
 pub mod Parity
+pub mod Order
 pub mod Faults
 pub mod Digits
 pub mod Held

@@ -1,14 +1,12 @@
 -- Test 9: inversions of the whole board, 0 counted as a value, plus row and column of the empty cell, make an odd sum.
 -- Assumes nothing.
-use Prim.Native.Nat.{ℕ, _+_, _%_, _≤_}
-use mathlib.Core.Path.{_≡_}
-use lib.ListN.{drop}
+use Prim.Native.Nat.{ℕ, _+_, _%_}
 use mathlib.Core.Bool.{Bool, cond}
 use mathlib.Core.List.{List, [], _∷_}
 use lib.Dec.{ltb, eqb}
 use Rattle.board.specs.declared.Shape.{Shape}
 use Rattle.board.specs.Shape.{row, column}
-use Rattle.board.specs.Board.{at, emptyCell}
+use Rattle.board.specs.Board.{emptyCell}
 
 -- how many of the values are below x
 unfoldable pub lower : ℕ → List ℕ → ℕ
@@ -25,8 +23,3 @@ paritySum s b = inversions b + row s (emptyCell b) + column s (emptyCell b)
 
 unfoldable pub isOdd : Shape → List ℕ → Bool
 isOdd s b = eqb (paritySum s b % 2) 1
-
--- k of the cells after cell i hold less than it
-pub record LowerAfter (b : List ℕ) (i k : ℕ) : Type 0 where
-  pub counted : k ≡ lower (at b i) (drop (i + 1) b)
-  pub most : k ≤ 16

@@ -6,6 +6,7 @@
 --     table, moves       low byte first; nothing that stood in them matters; which bytes are changed, and that all others stay
 --     A, B1, B2, B3      the customer's conditions, in their order
 --     E1                 the record of a plan: r % 256 is the number, r / 256 the record's length, or a refusal's cell or place
+--     E6                 the reachability test, `r ≡ packedReach width height b`: r % 256 is the number, r / 256 the cell
 -- Assumes nothing.
 use Prim.Native.Nat.{ℕ, _+_, _*_, _/_, _%_, _^_, _≤_, _<_, min}
 use mathlib.Core.Path.{_≡_, refl, sym, ap, subst, _∙_}
@@ -13,20 +14,29 @@ use mathlib.Core.Logic.{_↔_, _⊎_, ⊎-elim, inl, inr}
 use mathlib.Core.Bool.{Bool, true, false, cond}
 use mathlib.Core.List.{List, [], _∷_, _++_}
 use native.Mathlib.Omega.{arith}
-use lib.IntN.{pos, negsuc}
+use lib.IntN.{ℤ, pos, negsuc}
 use lib.ListN.{length, take, drop, replicate}
 use lib.Seq.{drop-at}
+use Rattle.board.specs.declared.Shape.{Shape}
+use Rattle.board.specs.declared.Fault.{Fault}
+use Rattle.board.specs.declared.Tested.{Tested}
+use Rattle.board.specs.declared.Tested.the-variants.{Sound, Faulty}
 use Rattle.board.specs.Lists.{Solves}
 use Rattle.board.specs.Tests.{FirstToHold, NoneHolds}
+use Rattle.board.specs.Faults.{tested, faultTests, faultNumber, faultCell}
+use Rattle.board.specs.Parity.{isOdd}
+use Rattle.board.proofs.Laws.{faulty-means, faulty-given, none-faulty, board-of, faultless-sound, odd-never-solved}
 use Rattle.search.specs.Run.{rowsFor}
 use Rattle.planner.specs.declared.Refusal.{Refusal}
 use Rattle.planner.specs.declared.Refusal.the-variants.{OddBoard, NoPlan, OutOfVisits}
 use Rattle.planner.specs.declared.Answer.{Answer}
 use Rattle.planner.specs.declared.Answer.the-variants.{Planned, Refused as Refusing}
-use Rattle.planner.specs.Limits.{ceilingOf}
+use Rattle.planner.specs.Limits.{ceilingOf, limitTests}
+use Rattle.planner.specs.Answer.{called, shortBuffer}
 use Rattle.planner.specs.Answer.{Call, shapeOf, tests, answered, refusalNumber, refusalCell, number, cell, planLength, visits, searchRan}
 use Rattle.planner.proofs.Promises as plan
 use Rattle.planner.proofs.theory.Kept.{Returned, OutOf}
+use Rattle.planner.proofs.theory.OddBoards.{OddAlone}
 use Rattle.planner.proofs.theory.Numbers.{IsPlan, plan-by-number, IsNoPlan, no-plan-by-number, IsSpent, spent-by-number}
 use Rattle.planner.proofs.theory.Numbers.{odd-by-number, by-test, by-search}
 use Rattle.planner.proofs.theory.Ways.{Way, refused, ran, way}
@@ -46,10 +56,11 @@ use Rattle.records.specs.Write.{shapeOf as shapeOfFields}
 use Rattle.records.proofs.Promises as wrote
 use Rattle.lowpengine.specs.Bytes.{AllBytes, numbers, bytesOf, oddByte, numbersUsed}
 use Rattle.lowpengine.specs.Packed.{packedPlan, farthest, playDetail, packedPlay, recordDetail, packedRecord}
+use Rattle.lowpengine.specs.Packed.{packedFault, reachAfter, packedReach}
 use Rattle.lowpengine.specs.Given.{inNumbers, PlanGiven, PlayGiven, RecordGiven}
 use Rattle.lowpengine.proofs.theory.Pairs.{count, back-to-bytes, cleared-bytes}
 use Rattle.lowpengine.proofs.theory.Used.{Used, used}
-use Rattle.lowpengine.proofs.theory.Sizes.{unwritten-some}
+use Rattle.lowpengine.proofs.theory.Sizes.{unwritten-some, fault-number, fault-some}
 use Rattle.lowpengine.proofs.theory.Packing.{Reads, answer-reads, play-number-read, play-detail-read}
 use Rattle.lowpengine.proofs.theory.Packing.{record-number-read, record-detail-read}
 use Rattle.lowpengine.proofs.theory.Places.{record-place}
@@ -388,3 +399,136 @@ module _ (g : Given) (found : List ℕ) (r : ℕ) (out : List ℕ) (given : Reco
             solves = wrote.written-solves g found k is;
             within = wrote.written-within g found k is;
           }))
+
+-- ---- E6: the reachability test
+
+-- what tests 1 to 4 refused a width, a height and a board by: the first that holds, its number and its cell
+pub record FaultyBy (width height : ℕ) (b : List ℕ) (k i : ℕ) : Type 0 where
+  pub fault : Fault
+  pub first : FirstToHold (faultTests width height b) fault
+  pub number-is : faultNumber fault ≡ k
+  pub cell-is : faultCell fault ≡ i
+
+module _ (width height : ℕ) (b : List ℕ) (r : ℕ) (given : r ≡ packedReach width height b) where
+  abbrev shape : Shape
+  shape = record { width = width; height = height }
+
+  -- what is given for a fault, and for a board
+  of-fault : {f : Fault} → FirstToHold (faultTests width height b) f → r ≡ packedFault f
+  unfolding reachAfter
+  of-fault {f} first = given ∙ ap (λ (t : Tested). reachAfter t b) (faulty-given width height b f first)
+
+  of-board : NoneHolds (faultTests width height b) → (odd : Bool) → isOdd shape b ≡ odd → r ≡ cond odd 9 0
+  unfolding reachAfter
+  of-board none odd is =
+      let good = board-of width height b none in
+      given
+      ∙ ap (λ (t : Tested). reachAfter t b) (faultless-sound shape b (good .0) (good .1))
+      ∙ ap (λ (t : Bool). cond t 9 0) is
+
+  -- by which case the test answers
+  data Said : Type 0 where
+    faulty : {f : Fault} → FirstToHold (faultTests width height b) f → r ≡ packedFault f → Said
+    odd : NoneHolds (faultTests width height b) → isOdd shape b ≡ true → r ≡ 9 → Said
+    even : NoneHolds (faultTests width height b) → isOdd shape b ≡ false → r ≡ 0 → Said
+
+  said : Said
+  said = go (tested width height b) refl
+    where
+      parity : NoneHolds (faultTests width height b) → (t : Bool) → isOdd shape b ≡ t → Said
+      parity none true is = odd none is (of-board none true is)
+      parity none false is = even none is (of-board none false is)
+
+      go : (t : Tested) → tested width height b ≡ t → Said
+      go (Faulty f) is = let first = faulty-means width height b f is in faulty first (of-fault first)
+      go (Sound s) is = parity (none-faulty width height b s is) (isOdd shape b) refl
+
+  -- 1 to 4 exactly when that test holds and no earlier one does, with its cell
+  pub reach-refused-exactly : (k : ℕ) → 1 ≤ k → k ≤ 4 → (r % 256 ≡ k) ↔ FaultyBy width height b k (r / 256)
+  reach-refused-exactly k low high = (λ e. go said e, gives)
+    where
+      go : Said → r % 256 ≡ k → FaultyBy width height b k (r / 256)
+      go (faulty {f} first packs) e = record {
+        fault = f;
+        first = first;
+        number-is = omega (arith, fault-number f);
+        cell-is = omega (arith, fault-number f);
+      }
+      go (odd none is nine) e = absurd (omega arith)
+      go (even none is zero-number) e = absurd (omega arith)
+
+      gives : FaultyBy width height b k (r / 256) → r % 256 ≡ k
+      gives it = omega (arith, of-fault (it .first), fault-number (it .fault), it .number-is)
+
+  -- 9 exactly when none of them holds and the parity is odd; 0 exactly when none holds and it is not; there is no other number
+  pub reach-odd-exactly : (r % 256 ≡ 9) ↔ (NoneHolds (faultTests width height b) × (isOdd shape b ≡ true))
+  reach-odd-exactly = (λ e. go said e, gives)
+    where
+      go : Said → r % 256 ≡ 9 → NoneHolds (faultTests width height b) × (isOdd shape b ≡ true)
+      go (faulty {f} first packs) e = absurd (omega (arith, fault-number f))
+      go (odd none is nine) e = (none, is)
+      go (even none is zero-number) e = absurd (omega arith)
+
+      gives : NoneHolds (faultTests width height b) × (isOdd shape b ≡ true) → r % 256 ≡ 9
+      gives it = let nine : r ≡ 9 = of-board (it .0) true (it .1) in omega arith
+
+  pub reach-zero-exactly : (r % 256 ≡ 0) ↔ (NoneHolds (faultTests width height b) × (isOdd shape b ≡ false))
+  reach-zero-exactly = (λ e. go said e, gives)
+    where
+      go : Said → r % 256 ≡ 0 → NoneHolds (faultTests width height b) × (isOdd shape b ≡ false)
+      go (faulty {f} first packs) e = absurd (omega (arith, fault-number f, fault-some f))
+      go (odd none is nine) e = absurd (omega arith)
+      go (even none is zero-number) e = (none, is)
+
+      gives : NoneHolds (faultTests width height b) × (isOdd shape b ≡ false) → r % 256 ≡ 0
+      gives it = let zero-number : r ≡ 0 = of-board (it .0) false (it .1) in omega arith
+
+  pub reach-numbers : (r % 256 ≤ 4) ⊎ (r % 256 ≡ 9)
+  reach-numbers = go said
+    where
+      go : Said → (r % 256 ≤ 4) ⊎ (r % 256 ≡ 9)
+      go (faulty {f} first packs) = inl (omega (arith, fault-number f))
+      go (odd none is nine) = inr (omega arith)
+      go (even none is zero-number) = inl (omega arith)
+
+  -- with 9 no legal list of any length leads to the goal
+  pub reach-odd-never : r % 256 ≡ 9 → (ds : List ℕ) → Solves shape b ds → ⊥
+  reach-odd-never e =
+      let it = reach-odd-exactly .0 e in
+      let good = board-of width height b (it .0) in
+      odd-never-solved shape b (good .0) (good .1) (it .1)
+
+-- the same board given to the planner's entry, with any ceiling, budget, weight and buffers; s is what that entry answers
+module _
+    (width height : ℕ) (b : List ℕ)
+    (ceiling : ℤ) (budget p q : ℕ) (moves table : List ℕ)
+    (r s : ℕ) (moves′ table′ : List ℕ)
+    (given : r ≡ packedReach width height b)
+    (planned : PlanGiven (called width height b ceiling budget p q moves table) s moves′ table′) where
+  abbrev call : Call
+  call = inNumbers (called width height b ceiling budget p q moves table)
+
+  nine-planned : (s % 256 ≡ 9) ↔ OddAlone call
+  nine-planned =
+      let is : s % 256 ≡ number (answered call .answer) = ap (λ x. x % 256) (planned .answer) ∙ answer-reads call .number-read in
+      (λ e. plan.odd-board-exactly call .0 (sym is ∙ e), λ it. is ∙ plan.odd-board-exactly call .1 it)
+
+  -- where the planner gives 9 the test does
+  pub planned-odd-reach : s % 256 ≡ 9 → r % 256 ≡ 9
+  planned-odd-reach e = let it = nine-planned .0 e in reach-odd-exactly width height b r given .1 (it .board-ok, it .odd)
+
+  -- so with 0 the planner never gives 9
+  pub reach-zero-never-9 : r % 256 ≡ 0 → s % 256 ≡ 9 → ⊥
+  reach-zero-never-9 zero-number e = let nine = planned-odd-reach e in omega arith
+
+  -- and where tests 5 to 8 pass the planner gives 9 exactly where the test does
+  pub reach-as-planned :
+      NoneHolds (limitTests ceiling budget p q)
+      → shortBuffer (ceilingOf ceiling) (length moves) (length (numbers table)) ≡ false
+      → (r % 256 ≡ 9) ↔ (s % 256 ≡ 9)
+  reach-as-planned kept room = (gives, planned-odd-reach)
+    where
+      gives : r % 256 ≡ 9 → s % 256 ≡ 9
+      gives e =
+          let it = reach-odd-exactly width height b r given .0 e in
+          nine-planned .1 (record { board-ok = it .0; limits-ok = kept; buffers-ok = room; odd = it .1 })

@@ -1,9 +1,16 @@
 -- An answer as one 64-bit number. A plan's answer has four fields: the number (0 for a plan), the cell from bit 8, the length from
--- bit 16 and the visits from bit 32. A play's answer has the number (0 for a list that was played) and one detail from bit 8, and so has
--- the record writer's (0 for a record that was written).
+-- bit 16 and the visits from bit 32. A play's answer has the number (0 for a list that was played) and one detail from bit 8, and so have
+-- the record writer's (0 for a record that was written) and the reachability test's (0 where 9 is not given).
 -- Assumes nothing.
 use Prim.Native.Nat.{ℕ, _+_, _*_, _-_, _^_, _<_, min}
 use mathlib.Core.Bool.{cond}
+use mathlib.Core.List.{List}
+use Rattle.board.specs.declared.Shape.{Shape}
+use Rattle.board.specs.declared.Fault.{Fault}
+use Rattle.board.specs.declared.Tested.{Tested}
+use Rattle.board.specs.declared.Tested.the-variants.{Sound, Faulty}
+use Rattle.board.specs.Faults.{tested, faultNumber, faultCell}
+use Rattle.board.specs.Parity.{isOdd}
 use Rattle.planner.specs.declared.Answer.{Answer}
 use Rattle.planner.specs.Answer.{number, cell, planLength, visits}
 use Rattle.player.specs.declared.Played.{Played}
@@ -44,3 +51,17 @@ recordDetail (Unwritten why) = min (unwrittenPlace why) farthest
 
 abbrev pub packedRecord : Written → ℕ
 packedRecord a = writtenNumber a + 2 ^ 8 * recordDetail a
+
+-- of the reachability test: tests 1 to 4 with the cell, then 9 for an odd board, and else 0
+abbrev pub packedFault : Fault → ℕ
+packedFault f = faultNumber f + 2 ^ 8 * faultCell f
+
+abbrev pub oddNumber : Shape → List ℕ → ℕ
+oddNumber s b = cond (isOdd s b) 9 0
+
+unfoldable pub reachAfter : Tested → List ℕ → ℕ
+reachAfter (Faulty f) b = packedFault f
+reachAfter (Sound s) b = oddNumber s b
+
+abbrev pub packedReach : ℕ → ℕ → List ℕ → ℕ
+packedReach width height b = reachAfter (tested width height b) b

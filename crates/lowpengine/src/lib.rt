@@ -6,16 +6,20 @@
 
 mod planning;
 mod playing;
+mod reaching;
 mod recording;
 mod told;
 
 use crate::planning::plan_in_bytes;
 use crate::playing::packed_play;
+use crate::reaching::packed_reach;
 use crate::recording::packed_record;
 use player::play;
 use records::write::write;
+ghost use mathlib.Core.Path.{_≡_};
 ghost use Rattle.planner.specs.Answer.{called};
 ghost use Rattle.records.specs.Write.{given};
+ghost use Rattle.lowpengine.specs.Packed.{packedReach};
 ghost use Rattle.lowpengine.specs.Given.{PlanGiven, PlayGiven, RecordGiven};
 
 // Plans with the weight p over q. The answer's number, cell, length and visits come back as one number, at bits 0, 8, 16 and 32.
@@ -91,4 +95,13 @@ pub extern "C" fn lowpengine_write_record(
 {
     let answer = write(width, height, board, ceiling, p, q, visits, moves, out);
     packed_record(answer)
+}
+
+// Tests 1 to 4, and then test 9 alone, for each key press. The number comes back at bit 0, from bit 8 on the cell of 3 and 4; 0 says that
+// test 9 does not hold, and no more.
+#[no_mangle]
+pub extern "C" fn lowpengine_reachable(width: u32, height: u32, board: &[u8]) -> u64
+    ensures { λ r. ⌜ r ≡ packedReach width height (now (board .entry)) ⌝ }
+{
+    packed_reach(width, height, board)
 }

@@ -34,6 +34,7 @@ use Rattle.planner.proofs.theory.Ways.{clear}
 use Rattle.planner.proofs.theory.Kept.{ceiling-below-zero, given-exactly, else-searched, untouched-is, late-is, PlanMade, plan-made}
 use Rattle.planner.proofs.theory.Kept.{visits-counted, Returned, no-plan-is, no-plan-means, OutOf, out-of-visits-is, budgeted}
 use Rattle.planner.proofs.theory.Kept.{spent-before-plan, spent-before-none, at-once, odd-board-means, static-most, capped}
+use Rattle.planner.proofs.theory.OddBoards.{OddAlone, nine-exactly}
 use Rattle.planner.proofs.theory.Small.{answered-small}
 use Rattle.planner.proofs.theory.Lending.{lending, SameAnswer, by-length}
 
@@ -57,6 +58,10 @@ module _ (c : Call) where
   -- 11 exactly when none of them holds and the search is spent; v is the budget
   pub out-of-visits-exactly : (v : ℕ) → (answered c .answer ≡ Refused (OutOfVisits v)) ↔ OutOf c v
   out-of-visits-exactly = out-of-visits-is c
+
+  -- 9 exactly when tests 1 to 8 pass and the board is odd (refused-exactly, spelled out for the reachability test by itself)
+  pub odd-board-exactly : (number (answered c .answer) ≡ 9) ↔ OddAlone c
+  odd-board-exactly = nine-exactly c
 
   -- where none of them holds the answer is a plan, 10 or 11, and no answer has a number above 11
   pub else-a-search : NoneHolds (tests c) → (number (answered c .answer) ≡ 0) ⊎ (10 ≤ number (answered c .answer))

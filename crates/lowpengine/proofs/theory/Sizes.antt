@@ -22,7 +22,7 @@ use Rattle.records.specs.declared.Written.the-variants.{Record, Refused as Unwr
 use Rattle.records.specs.Answers.{refusalNumber as unwrittenNumber, answerNumber as writtenNumber}
 use Rattle.lowpengine.specs.Packed.{farthest, playDetail, recordDetail}
 
-fault-number : (f : Fault) → faultNumber f ≤ 4
+pub fault-number : (f : Fault) → faultNumber f ≤ 4
 fault-number BadShape = omega arith
 fault-number BadLength = omega arith
 fault-number (TooLarge i) = omega arith
@@ -46,7 +46,7 @@ pub play-detail : (a : Played) → playDetail a ≤ farthest
 play-detail (End goal) = goal-detail goal
 play-detail (Refused why) = omega arith
 
-fault-some : (f : Fault) → 1 ≤ faultNumber f
+pub fault-some : (f : Fault) → 1 ≤ faultNumber f
 fault-some BadShape = omega arith
 fault-some BadLength = omega arith
 fault-some (TooLarge i) = omega arith
