@@ -82,6 +82,8 @@ static void plan(const struct job *job) {
 
     printf("%s:\n", job->name);
     show(job, job->board);
+    if (lowpengine_number(lowpengine_reachable(job->width, job->height, job->board, n)) == LOWPENGINE_UNREACHABLE)
+        printf("known before any search: %s\n", reason(LOWPENGINE_UNREACHABLE));
     if (number == LOWPENGINE_DONE)
         printf("%u slides, %u visits made\n", (unsigned)lowpengine_length(answer), (unsigned)lowpengine_visits(answer));
     else if (number == LOWPENGINE_BAD_VALUE || number == LOWPENGINE_REPEATED_VALUE)
