@@ -1,5 +1,6 @@
 /*
- * Plans some boards and shows the cabinet after each slide and the record of the plan, or says why there is no plan.
+ * Plans some boards and shows the cabinet after each slide and the record of the plan, which it reads back as the next cabinet
+ * would, or says why there is no plan.
  *
  *   cc -std=c11 -I include examples/plan.c target/staticlib/liblowpengine.a -o plan
  */
@@ -38,6 +39,10 @@ static const char *reason(enum lowpengine_result number) {
     case LOWPENGINE_MALFORMED_TEXT: return "no job line";
     case LOWPENGINE_BAD_MOVE: return "no such move";
     case LOWPENGINE_OFF_GRID: return "a move off the grid";
+    case LOWPENGINE_CUT_SHORT: return "the record is cut short";
+    case LOWPENGINE_BAD_NUMBER: return "no number of a record is written so";
+    case LOWPENGINE_WRONG_MARK: return "the record was changed on its way";
+    case LOWPENGINE_BYTES_AFTER: return "more than a record";
     case LOWPENGINE_ABOVE_CEILING: return "more slides than the ceiling";
     case LOWPENGINE_NOT_SOLVED: return "the slides do not lead to the goal";
     }
@@ -57,6 +62,24 @@ static void show(const struct job *job, const uint8_t *board) {
     }
 }
 
+/* What the next cabinet does with the bytes that it was sent: it trusts none of them. */
+static void receive(const uint8_t *record, size_t length) {
+    uint8_t plan[LOWPENGINE_READ_BYTES], end[LOWPENGINE_CELLS];
+    uint64_t read = lowpengine_read_record(record, length, plan, sizeof plan);
+    if (lowpengine_number(read) != LOWPENGINE_DONE) {
+        printf("%u bytes are refused at %u: %s\n", (unsigned)length, (unsigned)lowpengine_place(read),
+               reason(lowpengine_number(read)));
+        return;
+    }
+    uint32_t n = lowpengine_read_cells(read), slides = lowpengine_read_length(read);
+    uint64_t played = lowpengine_play(lowpengine_read_width(read), lowpengine_read_height(read), plan, n, plan + n, slides, end,
+                                      sizeof end);
+    printf("read back: %u by %u, ceiling %d, weight %u over %u, %u visits, %u slides, %s\n", (unsigned)lowpengine_read_width(read),
+           (unsigned)lowpengine_read_height(read), (int)lowpengine_read_ceiling(read), (unsigned)lowpengine_read_p(read),
+           (unsigned)lowpengine_read_q(read), (unsigned)lowpengine_read_visits(read), (unsigned)slides,
+           lowpengine_is_goal(played) ? "played to the goal" : "not to the goal");
+}
+
 /* The plan as a record, in hex: what a controller would store or send. */
 static void store(const struct job *job, uint64_t answer, const uint8_t *moves) {
     uint8_t record[LOWPENGINE_RECORD_BYTES];
@@ -71,6 +94,8 @@ static void store(const struct job *job, uint64_t answer, const uint8_t *moves) 
     for (uint32_t i = 0; i < lowpengine_record_length(stored); i++)
         printf(" %02x", (unsigned)record[i]);
     putchar('\n');
+    receive(record, lowpengine_record_length(stored));
+    receive(record, lowpengine_record_length(stored) - 1);
 }
 
 static void plan(const struct job *job) {

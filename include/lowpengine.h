@@ -28,7 +28,8 @@ enum {
     LOWPENGINE_MOVES = 120,         /* bytes of the longest plan, and the highest ceiling */
     LOWPENGINE_TABLE_NUMBERS = 484, /* numbers of the largest table, 4 * (120 + 1) */
     LOWPENGINE_TABLE_BYTES = 968,   /* the same in bytes, two for each number, low byte first */
-    LOWPENGINE_RECORD_BYTES = 149   /* bytes of the longest record */
+    LOWPENGINE_RECORD_BYTES = 149,  /* bytes of the longest record */
+    LOWPENGINE_READ_BYTES = 136     /* bytes that reading a record gives at most: the largest board and the longest plan */
 };
 
 /* Where the empty cell goes. */
@@ -37,10 +38,11 @@ enum lowpengine_move { LOWPENGINE_UP = 0, LOWPENGINE_LEFT = 1, LOWPENGINE_RIGHT 
 /*
  * What an answer says: 0 if it was done, else why it was refused. Each number has one name, whichever entry answers it, so one
  * switch can serve all entries. The planner entries answer 0 to 11; lowpengine_play answers 0, 1 to 4, 8, 13 and 14;
- * lowpengine_write_record answers 0, 1 to 8, 13, 14, 21 and 22; lowpengine_reachable answers 0, 1 to 4 and 9.
+ * lowpengine_write_record answers 0, 1 to 8, 13, 14, 21 and 22; lowpengine_read_record the same but 2, and 17 to 20;
+ * lowpengine_reachable answers 0, 1 to 4 and 9.
  */
 enum lowpengine_result {
-    LOWPENGINE_DONE = 0,            /* not refused: a plan was found; every move was played; the record was written; not 9 */
+    LOWPENGINE_DONE = 0,            /* not refused: a plan was found; every move was played; the record was written or read; not 9 */
     LOWPENGINE_BAD_SHAPE = 1,       /* width or height is not 2, 3 or 4 */
     LOWPENGINE_BAD_LENGTH = 2,      /* the board has not n bytes */
     LOWPENGINE_BAD_VALUE = 3,       /* a byte of the board is n or more; the cell is the first such */
@@ -48,14 +50,18 @@ enum lowpengine_result {
     LOWPENGINE_BAD_CEILING = 5,     /* the ceiling is not 0 to 120 */
     LOWPENGINE_BAD_BUDGET = 6,      /* the budget, or a record's visits, is not 1 to 1,000,000 */
     LOWPENGINE_BAD_WEIGHT = 7,      /* the weight p over q has q = 0, p < q or p > 64 */
-    LOWPENGINE_SHORT_BUFFER = 8,    /* a buffer is too short: moves or table of a plan, out of a play or a record */
+    LOWPENGINE_SHORT_BUFFER = 8,    /* a buffer is too short: moves or table of a plan, out of the other entries */
     LOWPENGINE_UNREACHABLE = 9,     /* no list of moves, however long, leads from this board to the goal */
     LOWPENGINE_NO_PLAN = 10,        /* no list of moves within the ceiling leads to the goal */
     LOWPENGINE_BUDGET_SPENT = 11,   /* the budget ran out before the search could tell */
     LOWPENGINE_MALFORMED_TEXT = 12, /* of the job program alone: its input is no job line; no entry answers this */
     LOWPENGINE_BAD_MOVE = 13,       /* a byte of the move list is above 3; the place is its index */
     LOWPENGINE_OFF_GRID = 14,       /* a move takes the empty cell off the grid; the place is its index */
-    LOWPENGINE_ABOVE_CEILING = 21,  /* the move list is longer than the ceiling */
+    LOWPENGINE_CUT_SHORT = 17,      /* a record ends too early; the place is its length */
+    LOWPENGINE_BAD_NUMBER = 18,     /* a number in a record has a group too many or is over 32 bits; the place is its first byte */
+    LOWPENGINE_WRONG_MARK = 19,     /* a record's mark is not that of the bytes before it */
+    LOWPENGINE_BYTES_AFTER = 20,    /* bytes follow the end of a record; the place is the first of them */
+    LOWPENGINE_ABOVE_CEILING = 21,  /* the move list is longer than the ceiling, or than a record can hold */
     LOWPENGINE_NOT_SOLVED = 22      /* the move list does not end at the goal */
 };
 
@@ -134,6 +140,27 @@ uint64_t lowpengine_write_record(uint32_t width, uint32_t height, const uint8_t 
                                  size_t out_len);
 
 /*
+ * Reads a record, as lowpengine_write_record writes it, from bytes that are not trusted.
+ *
+ *   record   the bytes; record_len is the record's length, not the size of the buffer that it stands in
+ *   out      receives the n cells and behind them the moves; LOWPENGINE_READ_BYTES always serve
+ *
+ * The numbers are read one after the other, and the first fault met is the answer: 17 if the bytes end; 18 if a number begins with
+ * byte 128, has the top bit set on its fifth byte or is over 32 bits; 1 if a width or height is not 2, 3 or 4, before what follows
+ * it is read; 21 if there are more than 120 moves. Then 17 if the moves or the mark are cut short, 20 if bytes follow the mark, 19
+ * if the mark is wrong. Then as lowpengine_write_record tests: 3 and 4, 5 to 7, 21, 13 or 14, 22, and 8 if out is shorter than
+ * the cells and the moves. So what is read leads to the goal within the ceiling, and lowpengine_write_record writes it as the same
+ * bytes. When the number is 0, out begins with cells and moves and the rest of out stays. A refusal leaves the whole of out as
+ * before. What stood in out never matters.
+ *
+ * The answer is taken apart by lowpengine_number, lowpengine_place and, for what was read, by the functions lowpengine_read_..
+ * below. The board is out with lowpengine_read_cells bytes; the plan begins behind it and has lowpengine_read_length moves. The
+ * place is a byte of the record for 1, 17, 18 and 20 and for 21 with more than 120 moves; the cell of 3 and 4; the index of the
+ * bad move of 13 and 14; else 0. A place of 2^56 - 1 or more is given as 2^56 - 1.
+ */
+uint64_t lowpengine_read_record(const uint8_t *record, size_t record_len, uint8_t *out, size_t out_len);
+
+/*
  * Tells whether the planner would answer 9 for the board, without planning: one pass over its cells, with at most n - 1
  * exchanges on a copy. It is meant for each key press.
  *
@@ -156,14 +183,29 @@ static inline uint32_t lowpengine_length(uint64_t answer) { return (uint32_t)(an
 /* Of a plan answer: the visits made, 0 for 1 to 9. */
 static inline uint32_t lowpengine_visits(uint64_t answer) { return (uint32_t)(answer >> 32); }
 
-/* Of a refused play or record: the cell of 3 and 4, the index of the bad move of 13 and 14, else 0. */
+/* Of a refused play or record: the cell of 3 and 4, the index of the bad move of 13 and 14, a byte of a record read, else 0. */
 static inline uint64_t lowpengine_place(uint64_t answer) { return (answer & 0xff) == 0 ? 0 : answer >> 8; }
 
 /* Of a play: 1 if every move was played and the board reached is the goal, else 0. */
 static inline int lowpengine_is_goal(uint64_t answer) { return answer == 1u << 8; }
 
-/* Of a record: its bytes, 0 for a refusal. */
+/* Of a record written: its bytes, 0 for a refusal. */
 static inline uint32_t lowpengine_record_length(uint64_t answer) { return (answer & 0xff) == 0 ? (uint32_t)(answer >> 8) : 0; }
+
+/* Of a record read, each 0 for a refusal: the sides, the cells (their product), ceiling, weight p over q, visits, and the moves. */
+static inline uint32_t lowpengine_read_field(uint64_t answer, int bit, uint32_t most) {
+    return (answer & 0xff) == 0 ? (uint32_t)(answer >> bit) & most : 0;
+}
+static inline uint32_t lowpengine_read_width(uint64_t answer) { return lowpengine_read_field(answer, 8, 7); }
+static inline uint32_t lowpengine_read_height(uint64_t answer) { return lowpengine_read_field(answer, 11, 7); }
+static inline uint32_t lowpengine_read_cells(uint64_t answer) {
+    return lowpengine_read_width(answer) * lowpengine_read_height(answer);
+}
+static inline int32_t lowpengine_read_ceiling(uint64_t answer) { return (int32_t)lowpengine_read_field(answer, 14, 127); }
+static inline uint32_t lowpengine_read_p(uint64_t answer) { return lowpengine_read_field(answer, 21, 127); }
+static inline uint32_t lowpengine_read_q(uint64_t answer) { return lowpengine_read_field(answer, 28, 127); }
+static inline uint32_t lowpengine_read_length(uint64_t answer) { return lowpengine_read_field(answer, 35, 127); }
+static inline uint32_t lowpengine_read_visits(uint64_t answer) { return lowpengine_read_field(answer, 42, 0xfffff); }
 
 #ifdef __cplusplus
 }

@@ -60,6 +60,43 @@ static const char *record_case(uint64_t answer) {
     }
 }
 
+/* Of the record reader. A record that is read is one of the two that are made below, in every field. */
+static const char *reading_case(uint64_t answer) {
+    uint32_t fields = lowpengine_read_width(answer) + lowpengine_read_height(answer) + lowpengine_read_cells(answer)
+                    + (uint32_t)lowpengine_read_ceiling(answer) + lowpengine_read_p(answer) + lowpengine_read_q(answer)
+                    + lowpengine_read_visits(answer) + lowpengine_read_length(answer);
+    if (lowpengine_number(answer) != LOWPENGINE_DONE && fields != 0)
+        return "fields of a record that is refused";
+    switch (lowpengine_number(answer)) {
+    case LOWPENGINE_DONE:
+        if (lowpengine_read_width(answer) == 2 && lowpengine_read_height(answer) == 2 && lowpengine_read_cells(answer) == 4
+            && lowpengine_read_ceiling(answer) == 3 && lowpengine_read_p(answer) == 5 && lowpengine_read_q(answer) == 1
+            && lowpengine_read_visits(answer) == 7 && lowpengine_read_length(answer) == 2)
+            return "read";
+        if (lowpengine_read_width(answer) == 4 && lowpengine_read_height(answer) == 4 && lowpengine_read_cells(answer) == 16
+            && lowpengine_read_ceiling(answer) == 120 && lowpengine_read_p(answer) == 64 && lowpengine_read_q(answer) == 64
+            && lowpengine_read_visits(answer) == 1000000 && lowpengine_read_length(answer) == 120)
+            return "longest record read";
+        return "read to other fields";
+    case LOWPENGINE_BAD_SHAPE: return lowpengine_place(answer) == 1 ? "shape" : "shape at another place";
+    case LOWPENGINE_BAD_VALUE: return lowpengine_place(answer) == 1 ? "value" : "value at another place";
+    case LOWPENGINE_REPEATED_VALUE: return lowpengine_place(answer) == 1 ? "repeated" : "repeated at another place";
+    case LOWPENGINE_BAD_CEILING: return "ceiling";
+    case LOWPENGINE_BAD_BUDGET: return "visits";
+    case LOWPENGINE_BAD_WEIGHT: return "weight";
+    case LOWPENGINE_SHORT_BUFFER: return "short";
+    case LOWPENGINE_BAD_MOVE: return lowpengine_place(answer) == 1 ? "bad move" : "bad move at another place";
+    case LOWPENGINE_OFF_GRID: return lowpengine_place(answer) == 1 ? "off the grid" : "off the grid at another place";
+    case LOWPENGINE_CUT_SHORT: return lowpengine_place(answer) == 16 ? "cut short" : "cut short at another place";
+    case LOWPENGINE_BAD_NUMBER: return lowpengine_place(answer) == 9 ? "bad number" : "bad number at another place";
+    case LOWPENGINE_WRONG_MARK: return lowpengine_place(answer) == 0 ? "wrong mark" : "wrong mark at a place";
+    case LOWPENGINE_BYTES_AFTER: return lowpengine_place(answer) == 17 ? "bytes after" : "bytes after another place";
+    case LOWPENGINE_ABOVE_CEILING: return lowpengine_place(answer) == 10 ? "more than a record holds" : "above the ceiling";
+    case LOWPENGINE_NOT_SOLVED: return "not solved";
+    default: return "no answer of the record reader";
+    }
+}
+
 /* Of the reachability test. */
 static const char *reach_case(uint64_t answer) {
     switch (lowpengine_number(answer)) {
@@ -91,6 +128,10 @@ static int number_of(uint64_t answer) {
     case LOWPENGINE_MALFORMED_TEXT: return 12;
     case LOWPENGINE_BAD_MOVE: return 13;
     case LOWPENGINE_OFF_GRID: return 14;
+    case LOWPENGINE_CUT_SHORT: return 17;
+    case LOWPENGINE_BAD_NUMBER: return 18;
+    case LOWPENGINE_WRONG_MARK: return 19;
+    case LOWPENGINE_BYTES_AFTER: return 20;
     case LOWPENGINE_ABOVE_CEILING: return 21;
     case LOWPENGINE_NOT_SOLVED: return 22;
     }
@@ -143,7 +184,24 @@ static void record(uint32_t width, size_t len, uint8_t last, int32_t ceiling, ui
     expect(record_case(answer), wanted, number_of(answer), number);
 }
 
-/* Sixteen cells, as many moves as there may be, and visits of three groups. */
+/* The record of the board 1 3 2 0, ceiling 3, weight 5 over 1, 7 visits, and up and left, with one byte another and the mark made
+ * right. Of these 17 bytes so many are read, or 0 for all of them with a wrong mark. */
+static void read_back(size_t at, uint8_t byte, size_t len, size_t room, const char *wanted, int number) {
+    uint8_t out[LOWPENGINE_READ_BYTES];
+    uint8_t bytes[] = {2, 2, 1, 3, 2, 0, 3, 5, 1, 7, 2, LOWPENGINE_UP, LOWPENGINE_LEFT, 0, 0, 0, 0, 0};
+    bytes[at] = byte;
+    uint32_t mark = 2166136261u;
+    for (size_t i = 0; i < 13; i++)
+        mark = (mark ^ bytes[i]) * 16777619u;
+    for (size_t i = 0; i < 4; i++)
+        bytes[13 + i] = (uint8_t)(mark >> (24 - 8 * i));
+    if (len == 0)
+        bytes[16] ^= 1;
+    uint64_t answer = lowpengine_read_record(bytes, len == 0 ? 17 : len, out, room);
+    expect(reading_case(answer), wanted, number_of(answer), number);
+}
+
+/* Sixteen cells, as many moves as there may be, and visits of three groups; read back where it was written. */
 static void longest(size_t room, const char *wanted, int number) {
     uint8_t out[LOWPENGINE_RECORD_BYTES], board[LOWPENGINE_CELLS], moves[LOWPENGINE_MOVES];
     for (uint8_t i = 0; i < LOWPENGINE_CELLS; i++)
@@ -153,6 +211,13 @@ static void longest(size_t room, const char *wanted, int number) {
     uint64_t answer = lowpengine_write_record(4, 4, board, sizeof board, LOWPENGINE_MOVES, 64, 64, 1000000, moves, sizeof moves,
                                               out, room);
     expect(record_case(answer), wanted, number_of(answer), number);
+    if (lowpengine_number(answer) != LOWPENGINE_DONE)
+        return;
+    uint8_t plan[LOWPENGINE_READ_BYTES];
+    answer = lowpengine_read_record(out, lowpengine_record_length(answer), plan, sizeof plan);
+    expect(reading_case(answer), "longest record read", number_of(answer), 0);
+    for (size_t i = 0; i < sizeof plan; i++)
+        wrong += plan[i] != (i < LOWPENGINE_CELLS ? board[i] : moves[i - LOWPENGINE_CELLS]);
 }
 
 int main(void) {
@@ -199,6 +264,23 @@ int main(void) {
     longest(LOWPENGINE_RECORD_BYTES, "longest record", 0);
     longest(LOWPENGINE_RECORD_BYTES - 1, "short", 8);
 
+    read_back(0, 2, 17, 6, "read", 0);
+    read_back(1, 5, 17, 6, "shape", 1);
+    read_back(3, 4, 17, 6, "value", 3);
+    read_back(3, 1, 17, 6, "repeated", 4);
+    read_back(6, 121, 17, 6, "ceiling", 5);
+    read_back(9, 0, 17, 6, "visits", 6);
+    read_back(7, 65, 17, 6, "weight", 7);
+    read_back(0, 2, 17, 5, "short", 8);
+    read_back(12, 4, 17, 6, "bad move", 13);
+    read_back(12, LOWPENGINE_UP, 17, 6, "off the grid", 14);
+    read_back(0, 2, 16, 6, "cut short", 17);
+    read_back(9, 128, 17, 6, "bad number", 18);
+    read_back(0, 2, 0, 6, "wrong mark", 19);
+    read_back(0, 2, 18, 6, "bytes after", 20);
+    read_back(6, 1, 17, 6, "above the ceiling", 21);
+    read_back(10, 121, 17, 6, "more than a record holds", 21);
+    read_back(12, LOWPENGINE_DOWN, 17, 6, "not solved", 22);
     reach(2, 4, 3, "not ruled out", 0);
     reach(5, 4, 3, "shape", 1);
     reach(2, 5, 3, "length", 2);

@@ -2,7 +2,7 @@
  * Measures the stack that a call takes. A function with a large array paints the stack below this program's frame and returns;
  * the call is made from the same place, and what is no longer paint was used. One plan has 120 slides, so its search stood at
  * the last depth; others run in all shapes at weights up to 64; plays run lists of 10 to 100,000 moves; the record is the
- * longest there is; the reachability test makes as many exchanges as it can.
+ * longest there is, and is read back; the reachability test makes as many exchanges as it can.
  *
  * It prints the most bytes of each, and ends with status 1 if the 64 KiB that docs/C-INTERFACE.md promises are not enough, if a
  * play's stack grows with its list, or if what was measured is not what is meant: a plan that has not 120 slides, another plan
@@ -14,6 +14,7 @@
 enum { ROOM = 1 << 18, PAINT = 0xa5, LONG = 100000, ENOUGH = 1 << 16 };
 
 static uint8_t list[LONG], moves[LOWPENGINE_MOVES], table[LOWPENGINE_TABLE_BYTES], out[LOWPENGINE_RECORD_BYTES];
+static uint8_t plan_read[LOWPENGINE_READ_BYTES];
 
 struct call {
     uint32_t width, height, p, q;
@@ -21,6 +22,7 @@ struct call {
     int32_t ceiling;
     size_t played; /* moves of the list to play; 0 for a plan */
     size_t stored; /* moves of the list to write a record of; 0 for none */
+    size_t read;   /* bytes of the last record to read; 0 for none */
     int reached;   /* the reachability test alone */
 };
 
@@ -30,6 +32,8 @@ static uint64_t answered(const struct call *c) {
         return lowpengine_reachable(c->width, c->height, c->board, n);
     if (c->played > 0)
         return lowpengine_play(c->width, c->height, c->board, n, list, c->played, out, sizeof out);
+    if (c->read > 0)
+        return lowpengine_read_record(out, c->read, plan_read, sizeof plan_read);
     if (c->stored > 0)
         return lowpengine_write_record(c->width, c->height, c->board, n, c->ceiling, c->p, c->q, 1000000, list, c->stored, out,
                                        sizeof out);
@@ -65,7 +69,7 @@ static size_t used(const struct call *c) {
 
 /* The goal turned round; where that can't be brought to the goal, with two trays exchanged. */
 static struct call far_board(uint32_t width, uint32_t height, uint32_t p, uint32_t q) {
-    struct call c = {width, height, p, q, {0}, LOWPENGINE_MOVES, 0, 0, 0};
+    struct call c = {width, height, p, q, {0}, LOWPENGINE_MOVES, 0, 0, 0, 0};
     uint32_t n = width * height;
     for (uint32_t i = 0; i < n; i++)
         c.board[i] = (uint8_t)(n - 1 - i);
@@ -77,7 +81,7 @@ static struct call far_board(uint32_t width, uint32_t height, uint32_t p, uint32
 }
 
 /* Planned in 120 slides at weight 64 over 1. */
-static const struct call longest = {4, 4, 64, 1, {10, 11, 0, 14, 3, 6, 5, 12, 7, 13, 2, 8, 15, 4, 9, 1}, LOWPENGINE_MOVES, 0, 0, 0};
+static const struct call longest = {4, 4, 64, 1, {10, 11, 0, 14, 3, 6, 5, 12, 7, 13, 2, 8, 15, 4, 9, 1}, LOWPENGINE_MOVES, 0, 0, 0, 0};
 
 /* The most stack of plans of all shapes at some weights. */
 static size_t most_of_plans(void) {
@@ -114,14 +118,18 @@ int main(void) {
     c.stored = LOWPENGINE_MOVES;
     size_t record = used(&c);
     refused |= lowpengine_record_length(answered(&c)) != LOWPENGINE_RECORD_BYTES;
+    c.read = LOWPENGINE_RECORD_BYTES;
+    size_t reading = used(&c);
+    refused |= lowpengine_read_length(answered(&c)) != LOWPENGINE_MOVES;
     /* one cycle through all cells: as many exchanges as there can be */
     for (uint8_t i = 0; i < LOWPENGINE_CELLS; i++)
         c.board[i] = (uint8_t)((i + 1) % LOWPENGINE_CELLS);
     c.reached = 1;
     size_t reach = used(&c);
     refused |= lowpengine_number(answered(&c)) != LOWPENGINE_UNREACHABLE;
-    printf("stack of a plan %u bytes at the last depth, %u in others; of a play %u bytes; of a record %u bytes\n", (unsigned)plan,
-           (unsigned)others, (unsigned)play, (unsigned)record);
+    printf("stack of a plan %u bytes at the last depth, %u in others; of a play %u bytes; of a record %u bytes, and %u to read it\n",
+           (unsigned)plan, (unsigned)others, (unsigned)play, (unsigned)record, (unsigned)reading);
     printf("stack of a reachability test %u bytes\n", (unsigned)reach);
-    return plan > ENOUGH || play > ENOUGH || record > ENOUGH || reach > ENOUGH || grows || refused || plan < others;
+    return plan > ENOUGH || play > ENOUGH || record > ENOUGH || reading > ENOUGH || reach > ENOUGH || grows || refused
+           || plan < others;
 }

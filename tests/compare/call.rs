@@ -14,7 +14,8 @@ pub enum Entry {
     PlanShort = 1,
     Play = 2,
     WriteRecord = 3,
-    Reachable = 4,
+    ReadRecord = 4,
+    Reachable = 5,
 }
 
 /// Where a slice lies in the memory. A null one is empty and passed as a null pointer.
@@ -25,8 +26,9 @@ pub struct Part {
     pub null: bool,
 }
 
-/// `parts` are board, moves and table of a plan; board, moves and output of a play and of a record, whose visits stand as the
-/// budget. A number that an entry lacks is 0, and a part that it lacks is empty.
+/// `parts` are board, moves and table of a plan; board, moves and output of a play and of a record written, whose visits stand as
+/// the budget; the bytes to read, nothing, and the output of a record read. A number that an entry lacks is 0, and a part that it
+/// lacks is empty.
 #[derive(Clone)]
 pub struct Call {
     pub entry: Entry,
@@ -81,6 +83,11 @@ impl Call {
         call
     }
 
+    /// A call of the record reader with an output of the given size.
+    pub fn read_record(random: &Random, record: &[u8], out: usize) -> Call {
+        Call { entry: Entry::ReadRecord, ..Call::play(random, 0, 0, record, &[], out) }
+    }
+
     /// A call of the reachability test, to which the board alone is lent.
     pub fn reachable(random: &Random, width: u32, height: u32, board: &[u8]) -> Call {
         Call { entry: Entry::Reachable, ..Call::play(random, width, height, board, &[], 0) }
@@ -101,6 +108,7 @@ impl Call {
             Entry::PlanShort => entries::plan_short(&order, &mut moves, &mut third),
             Entry::Play => entries::play(width, height, board, &moves, &mut third),
             Entry::WriteRecord => entries::write_record(&order, &moves, &mut third),
+            Entry::ReadRecord => entries::read_record(board, &mut third),
             Entry::Reachable => entries::reachable(width, height, board),
         };
         let mut memory = self.memory.clone();
@@ -111,8 +119,9 @@ impl Call {
 
     /// The name of the byte at a place of the memory.
     pub fn name_of_byte(&self, at: usize) -> String {
-        let third = if matches!(self.entry, Entry::Play | Entry::WriteRecord) { "output" } else { "table" };
-        for (part, name) in self.parts.iter().zip(["board", "moves", third]) {
+        let third = if matches!(self.entry, Entry::Plan | Entry::PlanShort) { "table" } else { "output" };
+        let first = if self.entry == Entry::ReadRecord { "record" } else { "board" };
+        for (part, name) in self.parts.iter().zip([first, "moves", third]) {
             if (part.at..part.at + part.len).contains(&at) {
                 return format!("{name} byte {}", at - part.at);
             }
@@ -137,11 +146,18 @@ fn lay_out(random: &Random, lens: [usize; 3]) -> ([Part; 3], Vec<u8>) {
     (parts, memory)
 }
 
+/// Bytes in hex, two digits each.
+pub fn hex(bytes: &[u8]) -> String {
+    bytes.iter().map(|byte| format!("{byte:02x}")).collect()
+}
+
 impl fmt::Display for Call {
     fn fmt(&self, to: &mut fmt::Formatter) -> fmt::Result {
         let Call { entry, width, height, ceiling, budget, p, q, .. } = self;
         let [_, moves, third] = self.parts;
-        write!(to, "{width} by {height}, board {:?}, ", self.part(0))?;
+        if *entry != Entry::ReadRecord {
+            write!(to, "{width} by {height}, board {:?}, ", self.part(0))?;
+        }
         match entry {
             Entry::Plan => write!(to, "ceiling {ceiling}, budget {budget}, weight {p}/{q}, ")?,
             Entry::PlanShort => write!(to, "ceiling {ceiling}, budget {budget}, short call, ")?,
@@ -149,6 +165,9 @@ impl fmt::Display for Call {
             Entry::WriteRecord => {
                 write!(to, "ceiling {ceiling}, weight {p}/{q}, visits {budget}, ")?;
                 return write!(to, "moves {:?}, {} output bytes of a record", self.part(1), third.len);
+            }
+            Entry::ReadRecord => {
+                return write!(to, "record {}, {} output bytes", hex(self.part(0)), third.len);
             }
             Entry::Reachable => return write!(to, "the reachability test"),
         }

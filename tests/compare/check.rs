@@ -2,6 +2,7 @@
 
 use crate::call::{Call, Entry};
 use crate::engine::Engine;
+use crate::readings::unpacked;
 use std::collections::BTreeMap;
 use std::sync::atomic::{AtomicBool, Ordering};
 
@@ -12,7 +13,7 @@ const BATCH: usize = 2_000;
 const MOST_PRINTED: usize = 5;
 
 /// What was compared: calls and claims by kind, the library's visits, and the numbers that it answered to plans, to plays, to
-/// records and to reachability tests.
+/// records written, to records read and to reachability tests.
 #[derive(Default)]
 pub struct Tally {
     pub kinds: BTreeMap<&'static str, usize>,
@@ -24,6 +25,7 @@ pub struct Tally {
     pub plans: BTreeMap<u8, usize>,
     pub plays: BTreeMap<u8, usize>,
     pub records: BTreeMap<u8, usize>,
+    pub readings: BTreeMap<u8, usize>,
     pub reaches: BTreeMap<u8, usize>,
     pub differences: usize,
 }
@@ -37,6 +39,7 @@ impl Tally {
         merge(&mut self.plans, other.plans);
         merge(&mut self.plays, other.plays);
         merge(&mut self.records, other.records);
+        merge(&mut self.readings, other.readings);
         merge(&mut self.reaches, other.reaches);
         self.calls += other.calls;
         self.visits += other.visits;
@@ -102,6 +105,7 @@ impl<'a> Checker<'a> {
             Entry::Plan | Entry::PlanShort => (&mut self.tally.plans, answer >> 32),
             Entry::Play => (&mut self.tally.plays, 0),
             Entry::WriteRecord => (&mut self.tally.records, 0),
+            Entry::ReadRecord => (&mut self.tally.readings, 0),
             Entry::Reachable => (&mut self.tally.reaches, 0),
         };
         self.tally.visits += visits;
@@ -139,7 +143,8 @@ impl<'a> Checker<'a> {
 fn shown(call: &Call, answer: u64) -> String {
     let number = answer & 0xff;
     match call.entry {
-        Entry::Play | Entry::WriteRecord | Entry::Reachable => format!("number {number} with {}", answer >> 8),
+        Entry::ReadRecord if number == 0 => format!("{:?}", unpacked(answer)),
+        Entry::Play | Entry::WriteRecord | Entry::ReadRecord | Entry::Reachable => format!("number {number} with {}", answer >> 8),
         _ => format!(
             "number {number}, cell {}, length {}, visits {}",
             answer >> 8 & 0xff,

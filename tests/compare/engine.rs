@@ -25,6 +25,7 @@ mod entries {
             moves: *const u8, moves_len: usize, out: *mut u8, out_len: usize) -> u64;
         pub fn lowpengine_write_record(width: u32, height: u32, board: *const u8, board_len: usize, ceiling: i32, p: u32, q: u32,
             visits: u32, moves: *const u8, moves_len: usize, out: *mut u8, out_len: usize) -> u64;
+        pub fn lowpengine_read_record(record: *const u8, record_len: usize, out: *mut u8, out_len: usize) -> u64;
         pub fn lowpengine_reachable(width: u32, height: u32, board: *const u8, board_len: usize) -> u64;
     }
 }
@@ -54,6 +55,7 @@ fn call_linked(call: &mut Call) -> u64 {
             Entry::WriteRecord => {
                 lowpengine_write_record(width, height, board, b, ceiling, p, q, budget, moves, m, third, t)
             }
+            Entry::ReadRecord => lowpengine_read_record(board, b, third, t),
             Entry::Reachable => lowpengine_reachable(width, height, board, b),
         }
     }

@@ -16,6 +16,7 @@ mod engine;
 mod plays;
 mod random;
 mod reaches;
+mod readings;
 mod records;
 mod small;
 mod vectors;
@@ -50,6 +51,7 @@ fn tasks(vectors: Option<PathBuf>, share: usize) -> Vec<Task> {
         tasks.push(Box::new(move |checker| wild::run(checker, part, 2_500usize.div_ceil(share))));
         tasks.push(Box::new(move |checker| plays::run(checker, part, 180usize.div_ceil(share))));
         tasks.push(Box::new(move |checker| records::run(checker, part, 60usize.div_ceil(share))));
+        tasks.push(Box::new(move |checker| readings::run(checker, part, 6usize.div_ceil(share))));
         tasks.push(Box::new(move |checker| reaches::lists(checker, part, PARTS, share)));
         tasks.push(Box::new(move |checker| reaches::run(checker, part, 900usize.div_ceil(share))));
     }
@@ -101,9 +103,12 @@ fn missing(tally: &Tally) -> Vec<String> {
     let plays = numbers.filter(|number| !tally.plays.contains_key(number)).map(|number| format!("play {number}"));
     let numbers = (0..=8).chain([13, 14, 21, 22]);
     let records = numbers.filter(|number| !tally.records.contains_key(number)).map(|number| format!("record {number}"));
+    // a record has as many cells as its shape, so reading it is never refused by 2
+    let numbers = [0, 1].into_iter().chain(3..=8).chain([13, 14]).chain(17..=22);
+    let readings = numbers.filter(|number| !tally.readings.contains_key(number)).map(|number| format!("reading {number}"));
     let numbers = [0, 1, 2, 3, 4, 9].into_iter();
     let reaches = numbers.filter(|number| !tally.reaches.contains_key(number)).map(|number| format!("reach {number}"));
-    plans.chain(plays).chain(records).chain(reaches).collect()
+    plans.chain(plays).chain(records).chain(readings).chain(reaches).collect()
 }
 
 fn main() {
@@ -126,6 +131,7 @@ fn main() {
     println!("answers to plans: {} ({} visits)", listed(&tally.plans), tally.visits);
     println!("answers to plays: {}", listed(&tally.plays));
     println!("answers to records: {}", listed(&tally.records));
+    println!("answers to readings: {}", listed(&tally.readings));
     println!("answers to reachability tests: {}", listed(&tally.reaches));
     println!("no claim on legal lists, the budget was spent: {}", tally.unclaimed);
     println!("damaged job texts written: {}", damage::write(damaged.as_ref()));

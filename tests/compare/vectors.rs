@@ -1,10 +1,12 @@
-//! The stored vectors: answers of yet another program. Jobs, plays and records are put to the second version and to the library,
+//! The stored vectors: answers of yet another program. Jobs, plays, records and bytes to read are put to the second version and to the library,
 //! whole texts to the second version's job reader.
 
-use crate::call::Call;
+use crate::call::{hex, Call};
 use crate::check::Checker;
 use crate::random::Random;
+use crate::readings;
 use second::planner::{Answer, Order};
+use second::records::Fields;
 use second::{entries, job};
 use std::fs;
 use std::path::Path;
@@ -27,19 +29,24 @@ fn numbers<T: std::str::FromStr>(text: &str) -> Vec<T> {
     text.split_whitespace().map(|word| word.parse().unwrap_or_else(|_| panic!("not a number: {word}"))).collect()
 }
 
+/// The bytes that a text has in hex.
+fn bytes(hex: &str) -> Vec<u8> {
+    let byte = |at| u8::from_str_radix(&hex[at..at + 2], 16).unwrap_or_else(|_| panic!("not hex: {hex}"));
+    (0..hex.len()).step_by(2).map(byte).collect()
+}
+
 pub fn run(checker: &mut Checker, folder: &Path) {
     let random = Random::new("vectors", 0);
     texts(checker, folder);
     jobs(checker, &random, folder);
     plays(checker, &random, folder);
     records(checker, &random, folder);
+    readings(checker, &random, folder);
 }
 
 fn texts(checker: &mut Checker, folder: &Path) {
     for (hex, expected) in lines(folder, "texts-after-e3.txt") {
-        let byte = |at| u8::from_str_radix(&hex[at..at + 2], 16).unwrap_or_else(|_| panic!("not hex: {hex}"));
-        let text: Vec<u8> = (0..hex.len()).step_by(2).map(byte).collect();
-        let wrote = job::run(&text);
+        let wrote = job::run(&bytes(&hex));
         checker.claim("vectors: texts, second version", wrote == expected, || format!("{hex}\n  {wrote}, not {expected}"));
     }
 }
@@ -118,6 +125,28 @@ fn records(checker: &mut Checker, random: &Random, folder: &Path) {
     }
 }
 
+fn readings(checker: &mut Checker, random: &Random, folder: &Path) {
+    let (mut calls, mut wanted) = (Vec::new(), Vec::new());
+    for (line, expected) in lines(folder, "records-read.txt") {
+        let fields: Vec<&str> = line.split(' ').collect();
+        let [record, out] = fields[..] else { panic!("not a record and a length: {line}") };
+        let record = if record == "-" { Vec::new() } else { bytes(record) };
+        let mut plan = vec![0; numbers::<usize>(out)[0]];
+        let answer = entries::read_record(&record, &mut plan);
+        let wrote = reading_line(answer, &plan);
+        let kind = "vectors: readings, second version";
+        checker.claim(kind, wrote == expected, || format!("{line}\n  {wrote}, not {expected}"));
+        calls.push(Call::read_record(random, &record, plan.len()));
+        wanted.push(expected);
+    }
+    for ((answer, call), expected) in
+        checker.ask("vectors: readings, library and second version", calls).into_iter().zip(wanted)
+    {
+        let wrote = reading_line(answer, call.part(2));
+        checker.claim("vectors: readings, library", wrote == expected, || format!("{call}\n  {wrote}, not {expected}"));
+    }
+}
+
 fn unpacked(answer: u64) -> Answer {
     let visits = (answer >> 32) as u32;
     match (answer & 0xff) as u8 {
@@ -137,10 +166,16 @@ fn play_line(answer: u64, end: &[u8]) -> String {
 
 fn record_line(answer: u64, out: &[u8]) -> String {
     match answer & 0xff {
-        0 => {
-            let bytes: String = out[..(answer >> 8) as usize].iter().map(|byte| format!("{byte:02x}")).collect();
-            format!("record {bytes}")
-        }
+        0 => format!("record {}", hex(&out[..(answer >> 8) as usize])),
         number => format!("refused {number} {}", answer >> 8),
     }
+}
+
+fn reading_line(answer: u64, out: &[u8]) -> String {
+    if answer & 0xff != 0 {
+        return format!("refused {} {}", answer & 0xff, answer >> 8);
+    }
+    let Fields { width, height, ceiling, p, q, visits, length } = readings::unpacked(answer);
+    let plan = &out[..(width * height) as usize + length];
+    format!("ok {width} {height} {ceiling} {p} {q} {visits} {length} {}", hex(plan))
 }

@@ -2,10 +2,11 @@
  * Calls the library's entries for another program, which may be of another processor. It reads calls from standard input
  * and writes, for each, the answer and the memory that the call left behind.
  *
- * A call is fourteen 32-bit numbers, low byte first, and the memory: entry (0 plan, 1 short plan, 2 play, 3 record, 4 reachability
- * test), width, height, ceiling, budget (or a record's visits), p, q; where board, moves and table (or output) start in the memory, or NONE
- * for a null pointer; their lengths; the memory's length. An answer is eight bytes, low byte first. It ends with status 0 at the end of the input and with
- * status 1 where the input is no list of calls.
+ * A call is fourteen 32-bit numbers, low byte first, and the memory: entry (0 plan, 1 short plan, 2 play, 3 record written, 4
+ * record read, 5 reachability test), width, height, ceiling, budget (or a record's visits), p, q; where board (or the record to
+ * read), moves and table (or output) start in the memory, or NONE for a null pointer; their lengths; the memory's length. An
+ * answer is eight bytes, low byte first. It ends with status 0 at the end of the input and with status 1 where the input is no
+ * list of calls.
  */
 #include "lowpengine.h"
 #include <stdio.h>
@@ -28,13 +29,15 @@ static uint64_t call(const uint32_t *n) {
     if (n[0] == 3)
         return lowpengine_write_record(n[1], n[2], board, n[10], ceiling, n[5], n[6], n[4], moves, n[11], third, n[12]);
     if (n[0] == 4)
+        return lowpengine_read_record(board, n[10], third, n[12]);
+    if (n[0] == 5)
         return lowpengine_reachable(n[1], n[2], board, n[10]);
     return lowpengine_play(n[1], n[2], board, n[10], moves, n[11], third, n[12]);
 }
 
 /* Whether the entry exists and each slice lies in the memory. */
 static int sound(const uint32_t *n) {
-    if (n[0] > 4 || n[13] > MOST)
+    if (n[0] > 5 || n[13] > MOST)
         return 0;
     for (int i = 0; i < 3; i++) {
         uint32_t at = n[7 + i], len = n[10 + i];

@@ -3,7 +3,7 @@
 use crate::board;
 use crate::planner::{self, Answer, Order};
 use crate::player::{self, Played};
-use crate::records::{self, Written};
+use crate::records::{self, Fields, Written};
 
 /// The highest place that an answer can hold.
 const HIGHEST_PLACE: u64 = (1 << 56) - 1;
@@ -44,6 +44,18 @@ pub fn write_record(order: &Order, moves: &[u8], out: &mut [u8]) -> u64 {
     match records::write(order, moves, out) {
         Written::Record { length } => (length as u64) << 8,
         Written::Refused { number, place } => number as u64 | (place as u64).min(HIGHEST_PLACE) << 8,
+    }
+}
+
+/// Reads a record; the number, then from bit 8 the place of the fault, or the fields: width from bit 8, height from bit 11,
+/// ceiling from bit 14, p from bit 21, q from bit 28, length from bit 35 and visits from bit 42.
+pub fn read_record(bytes: &[u8], out: &mut [u8]) -> u64 {
+    match records::read(bytes, out) {
+        Ok(Fields { width, height, ceiling, p, q, visits, length }) => {
+            let places = [(width, 8), (height, 11), (ceiling, 14), (p, 21), (q, 28), (length as u32, 35), (visits, 42)];
+            places.into_iter().fold(0, |answer, (field, bit)| answer | u64::from(field) << bit)
+        }
+        Err((number, place)) => number as u64 | (place as u64).min(HIGHEST_PLACE) << 8,
     }
 }
 

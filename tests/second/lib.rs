@@ -1,4 +1,4 @@
-//! A second planner, player, record writer and job program in plain Rust, to hold the proved ones against.
+//! A second planner, player, record writer and reader and job program in plain Rust, to hold the proved ones against.
 //!
 //! It was written from the rules of the cabinet alone and shares no code with the library under `crates/`. It favours what is
 //! easy to believe over what is quick: recursion with local arrays, the distance summed afresh for every position.

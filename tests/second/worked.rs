@@ -5,7 +5,7 @@ use crate::entries;
 use crate::job;
 use crate::planner::{plan, Answer, Order};
 use crate::player::{play, Played};
-use crate::records::{self, Written};
+use crate::records::{self, Fields, Written};
 
 /// The answer line of a job given as text without its line feed.
 fn answer(line: &str) -> String {
@@ -290,5 +290,98 @@ fn refusals_of_the_record_writer() {
     ];
     for (order, moves, number, place) in rows {
         assert_eq!(records::write(&order, moves, &mut [0; 1]), Written::Refused { number, place }, "{number}");
+    }
+}
+
+/// The bytes of `STORED` with its six moves, without the mark: width, height, cells, ceiling, p, q, visits, length, moves.
+const STORED_BYTES: [u8; 17] = [2, 2, 3, 2, 1, 0, 6, 1, 1, 7, 6, 0, 1, 3, 2, 0, 1];
+
+/// Bytes with their mark behind them.
+fn marked(bytes: &[u8]) -> Vec<u8> {
+    [bytes, &records::mark(bytes).to_be_bytes()].concat()
+}
+
+/// `STORED_BYTES` with the bytes from a place on, so many of them, exchanged for others.
+fn with(at: usize, count: usize, bytes: &[u8]) -> Vec<u8> {
+    [&STORED_BYTES[..at], bytes, &STORED_BYTES[at + count..]].concat()
+}
+
+/// The mark here is the one worked by hand.
+#[test]
+fn record_read_back() {
+    let record = [&STORED_BYTES[..], &[0x0c, 0x53, 0xe4, 0x8b]].concat();
+    let fields = Fields { width: 2, height: 2, ceiling: 6, p: 1, q: 1, visits: 7, length: 6 };
+    let mut out = [9; 12];
+    assert_eq!(records::read(&record, &mut out[..9]), Err((8, 0)));
+    assert_eq!(out, [9; 12]);
+    assert_eq!(records::read(&record, &mut out[..10]), Ok(fields));
+    assert_eq!(out, [3, 2, 1, 0, 0, 1, 3, 2, 0, 1, 9, 9]);
+    let packed = 2 << 8 | 2 << 11 | 6 << 14 | 1 << 21 | 1 << 28 | 6 << 35 | 7 << 42;
+    assert_eq!(entries::read_record(&record, &mut out), packed);
+    assert_eq!(entries::read_record(&record[..20], &mut out), 17 | 20 << 8);
+    let widest = Order { width: 4, height: 4, budget: 1_000_000, p: 64, q: 64, ceiling: 120, ..STORED };
+    let goal: Vec<u8> = (0..16).collect();
+    let record = records::record(&Order { board: &goal, ..widest }, &[2, 1].repeat(60));
+    assert_eq!(record.len(), 149);
+    let packed = 4 << 8 | 4 << 11 | 120 << 14 | 64 << 21 | 64 << 28 | 120 << 35 | 1_000_000 << 42;
+    assert_eq!(entries::read_record(&record, &mut [0; 136]), packed);
+}
+
+/// A zero group in front, a top bit on the fifth byte, more than 32 bits; the largest number of 32 bits is read, and the next not.
+#[test]
+fn numbers_that_are_refused() {
+    let rows = [
+        (with(9, 1, &[128, 7]), 18, 9),
+        (with(9, 1, &[128]), 18, 9),
+        (with(0, 1, &[128, 2]), 18, 0),
+        (with(2, 1, &[128, 3]), 18, 2),
+        (with(9, 1, &[129, 128, 128, 128, 128, 7]), 18, 9),
+        (with(9, 1, &[0x8f, 0xff, 0xff, 0xff, 0x7f]), 6, 0),
+        (with(9, 1, &[0x90, 0x80, 0x80, 0x80, 0]), 18, 9),
+        (with(9, 1, &[0x90, 0x80, 0x80, 0x80, 7]), 18, 9),
+        (with(9, 1, &[0xff, 0xff, 0xff, 0xff, 0x7f]), 18, 9),
+        (with(6, 1, &[0x88, 0x80, 0x80, 0x80, 6]), 5, 0),
+        (with(3, 1, &[0x82, 2]), 3, 1),
+    ];
+    for (bytes, number, place) in rows {
+        assert_eq!(records::read(&marked(&bytes), &mut [0; 136]), Err((number, place)), "{bytes:?}");
+    }
+    // the first bytes of a number that is too large: cut short, since no fifth byte is met
+    assert_eq!(records::read(&with(9, 8, &[0xff, 0xff, 0xff, 0xff]), &mut []), Err((17, 13)));
+    assert_eq!(records::read(&[128], &mut []), Err((18, 0)));
+    assert_eq!(records::read(&[], &mut []), Err((17, 0)));
+}
+
+/// Each that holds with all that follow it, where they can: the output is too short, and the mark wrong but where said.
+#[test]
+fn order_of_the_reader() {
+    let bad = [&with(15, 2, &[4, 4])[..], &[0; 4]].concat();
+    let rows = [
+        (with(0, 2, &[5, 128]), 1, 0),
+        (with(0, 1, &[0x81, 0]), 1, 0),
+        (with(1, 2, &[1, 128]), 1, 1),
+        (with(10, 7, &[121]), 21, 10),
+        (with(10, 7, &[0x81, 0]), 21, 10),
+        (with(17, 0, &[0; 3]), 17, 20),
+        (with(17, 0, &[0; 5]), 20, 21),
+        (bad.clone(), 19, 0),
+        (with(17, 0, &[0x0c, 0x53, 0xe4, 0x8a]), 19, 0),
+        (with(17, 0, &[0x8c, 0x53, 0xe4, 0x8b]), 19, 0),
+        (marked(&bad), 20, 21),
+        (marked(&with(3, 4, &[3, 1, 5, 121])), 3, 3),
+        (marked(&with(3, 4, &[3, 1, 0, 121])), 4, 1),
+        (marked(&with(6, 4, &[121, 1, 2, 0])), 5, 0),
+        (marked(&with(6, 4, &[5, 1, 2, 0])), 6, 0),
+        (marked(&with(6, 4, &[5, 1, 2, 1])), 7, 0),
+        (marked(&with(6, 11, &[5, 1, 1, 7, 6, 9, 9, 9, 9, 9, 9])), 21, 0),
+        (marked(&with(11, 6, &[0, 4, 0, 0, 0, 0])), 13, 1),
+        (marked(&with(11, 6, &[0, 0, 4, 4, 4, 4])), 14, 1),
+        (marked(&with(10, 7, &[2, 0, 1])), 22, 0),
+        (marked(&STORED_BYTES), 8, 0),
+    ];
+    for (bytes, number, place) in rows {
+        let mut out = [9; 9];
+        assert_eq!(records::read(&bytes, &mut out), Err((number, place)), "{bytes:?}");
+        assert_eq!(out, [9; 9]);
     }
 }

@@ -4,3 +4,4 @@ pub mod Used
 pub mod Sizes
 pub mod Places
 pub mod Packing
+pub mod Narrowed

@@ -1,5 +1,5 @@
 -- What an entry gives: its result, and every lent byte afterwards. The planner's whole answer is that for the table's numbers; the
--- player's and the record writer's are their own. Assumes nothing.
+-- player's, the record writer's and the record reader's are their own. Assumes nothing.
 use Prim.Native.Nat.{ℕ}
 use mathlib.Core.Path.{_≡_}
 use mathlib.Core.List.{List, _++_}
@@ -7,8 +7,9 @@ use Rattle.planner.specs.Answer.{Call, answered, called}
 use Rattle.player.specs.declared.Played.{Played}
 use Rattle.player.specs.Play.{PlayedAs}
 use Rattle.records.specs.Write.{Given, written}
+use Rattle.records.specs.Read.{readBack}
 use Rattle.lowpengine.specs.Bytes.{numbers, bytesOf, oddByte}
-use Rattle.lowpengine.specs.Packed.{packedPlan, packedPlay, packedRecord}
+use Rattle.lowpengine.specs.Packed.{packedPlan, packedPlay, packedRecord, packedReading}
 
 -- the planner's call of an entry's inputs c, whose table is as it was lent, in bytes
 abbrev pub inNumbers : Call → Call
@@ -29,3 +30,8 @@ pub record PlayGiven (width height : ℕ) (b moves found : List ℕ) (r : ℕ) (
 pub record RecordGiven (g : Given) (found : List ℕ) (r : ℕ) (out′ : List ℕ) : Type 0 where
   pub result : r ≡ packedRecord (written g found .answer)
   pub out : out′ ≡ written g found .out
+
+-- the record reader's answer and the output as it leaves it, whose bytes were `found`
+pub record ReadGiven (bytes found : List ℕ) (r : ℕ) (out′ : List ℕ) : Type 0 where
+  pub result : r ≡ packedReading (readBack bytes found .answer)
+  pub out : out′ ≡ readBack bytes found .out

@@ -1,8 +1,10 @@
 -- An answer as one 64-bit number. A plan's answer has four fields: the number (0 for a plan), the cell from bit 8, the length from
 -- bit 16 and the visits from bit 32. A play's answer has the number (0 for a list that was played) and one detail from bit 8, and so have
--- the record writer's (0 for a record that was written) and the reachability test's (0 where 9 is not given).
+-- the record writer's (0 for a record that was written), the reader's (0 for a record that was read), whose detail may be seven fields,
+-- and the reachability test's (0 where 9 is not given).
 -- Assumes nothing.
 use Prim.Native.Nat.{ℕ, _+_, _*_, _-_, _^_, _<_, min}
+use mathlib.Core.Path.{_≡_}
 use mathlib.Core.Bool.{cond}
 use mathlib.Core.List.{List}
 use Rattle.board.specs.declared.Shape.{Shape}
@@ -19,6 +21,10 @@ use Rattle.player.specs.Answers.{answerNumber, refusalPlace}
 use Rattle.records.specs.declared.Written.{Written}
 use Rattle.records.specs.declared.Written.the-variants.{Record, Refused as Unwritten}
 use Rattle.records.specs.Answers.{answerNumber as writtenNumber, refusalPlace as unwrittenPlace}
+use Rattle.records.specs.declared.Numbers.{Numbers}
+use Rattle.records.specs.declared.ReadAnswer.{ReadAnswer}
+use Rattle.records.specs.declared.ReadAnswer.the-variants.{Fields, Refused as Unread}
+use Rattle.records.specs.Readings.{readingNumber, unreadPlace}
 
 -- fields that do not run into each other
 pub record Apart (number cell length : ℕ) : Type 0 where
@@ -51,6 +57,33 @@ recordDetail (Unwritten why) = min (unwrittenPlace why) farthest
 
 abbrev pub packedRecord : Written → ℕ
 packedRecord a = writtenNumber a + 2 ^ 8 * recordDetail a
+
+-- the numbers of a record that was read do not run into each other
+pub record Narrow (n : Numbers) : Type 0 where
+  pub small-width : n .width < 2 ^ 3
+  pub small-height : n .height < 2 ^ 3
+  pub small-ceiling : n .ceiling < 2 ^ 7
+  pub small-p : n .p < 2 ^ 7
+  pub small-q : n .q < 2 ^ 7
+  pub small-length : n .length < 2 ^ 7
+  pub small-visits : n .visits < 2 ^ 20
+
+abbrev pub NarrowIn : ReadAnswer → Type 0
+NarrowIn a = (n : Numbers) → a ≡ Fields n → Narrow n
+
+-- width, height, ceiling, p, q, length and visits, each above the bits of those before it: 3, 3, 7, 7, 7, 7 and 20 of them
+abbrev pub packedNumbers : Numbers → ℕ
+packedNumbers n =
+    n .width
+    + 2 ^ 3 * (n .height + 2 ^ 3 * (n .ceiling + 2 ^ 7 * (n .p + 2 ^ 7 * (n .q + 2 ^ 7 * (n .length + 2 ^ 7 * n .visits)))))
+
+-- of a record that was read: its numbers; of a refusal: the place
+abbrev pub readingDetail : ReadAnswer → ℕ
+readingDetail (Fields n) = packedNumbers n
+readingDetail (Unread why) = min (unreadPlace why) farthest
+
+abbrev pub packedReading : ReadAnswer → ℕ
+packedReading a = readingNumber a + 2 ^ 8 * readingDetail a
 
 -- of the reachability test: tests 1 to 4 with the cell, then 9 for an odd board, and else 0
 abbrev pub packedFault : Fault → ℕ

@@ -7,20 +7,23 @@
 mod planning;
 mod playing;
 mod reaching;
+mod reading;
 mod recording;
 mod told;
 
 use crate::planning::plan_in_bytes;
 use crate::playing::packed_play;
 use crate::reaching::packed_reach;
+use crate::reading::packed_reading;
 use crate::recording::packed_record;
 use player::play;
+use records::read::read;
 use records::write::write;
 ghost use mathlib.Core.Path.{_≡_};
 ghost use Rattle.planner.specs.Answer.{called};
 ghost use Rattle.records.specs.Write.{given};
 ghost use Rattle.lowpengine.specs.Packed.{packedReach};
-ghost use Rattle.lowpengine.specs.Given.{PlanGiven, PlayGiven, RecordGiven};
+ghost use Rattle.lowpengine.specs.Given.{PlanGiven, PlayGiven, RecordGiven, ReadGiven};
 
 // Plans with the weight p over q. The answer's number, cell, length and visits come back as one number, at bits 0, 8, 16 and 32.
 #[no_mangle]
@@ -95,6 +98,16 @@ pub extern "C" fn lowpengine_write_record(
 {
     let answer = write(width, height, board, ceiling, p, q, visits, moves, out);
     packed_record(answer)
+}
+
+// Reads a record back. The number comes back at bit 0; of a record that was read width, height, ceiling, p, q, length and visits at bits 8,
+// 11, 14, 21, 28, 35 and 42, of a refusal its place from bit 8 on.
+#[no_mangle]
+pub extern "C" fn lowpengine_read_record(record: &[u8], out: &mut [u8]) -> u64
+    ensures { λ r. ⌜ ReadGiven (now («record» .entry)) (now (out .entry)) r (now (out .exit)) ⌝ }
+{
+    let answer = read(record, out);
+    packed_reading(answer)
 }
 
 // Tests 1 to 4, and then test 9 alone, for each key press. The number comes back at bit 0, from bit 8 on the cell of 3 and 4; 0 says that

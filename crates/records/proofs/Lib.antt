@@ -3,3 +3,4 @@
 pub mod theory
 pub mod code
 pub mod Promises
+pub mod ReadPromises

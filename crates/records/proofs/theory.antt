@@ -6,3 +6,11 @@ pub mod Marks
 pub mod Pieces
 pub mod Lengths
 pub mod Outcomes
+pub mod ReadRows
+pub mod Scanning
+pub mod Asking
+pub mod Standing
+pub mod Whole
+pub mod Back
+pub mod Refusing
+pub mod Forming

@@ -36,7 +36,7 @@ pub fn length(answer: Written) -> usize
     }
 }
 
-fn refusal_number(why: PlanRefusal) -> u32
+pub fn refusal_number(why: PlanRefusal) -> u32
     ensures { λ r. ⌜ r ≡ refusalNumber why ⌝ }
 {
     match why {
@@ -50,7 +50,7 @@ fn refusal_number(why: PlanRefusal) -> u32
     }
 }
 
-fn refusal_place(why: PlanRefusal) -> usize
+pub fn refusal_place(why: PlanRefusal) -> usize
     ensures { λ r. ⌜ r ≡ refusalPlace why ⌝ }
 {
     match why {

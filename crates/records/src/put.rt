@@ -10,7 +10,7 @@ ghost use Rattle.records.specs.Record.{piece, pieces, sealed};
 ghost use Rattle.records.specs.Put.{Put};
 
 // Puts bytes as they are, and answers the place behind them.
-fn put_bytes(bytes: &[u8], out: &mut [u8], at: usize) -> usize
+pub fn put_bytes(bytes: &[u8], out: &mut [u8], at: usize) -> usize
     requires { ⌜ at + length (now bytes) ≤ length (now out) ⌝ }
     ensures { λ r. ⌜ Put (now (bytes .entry)) (now (out .entry)) at (now (out .exit)) r ⌝ }
 {

@@ -1,6 +1,8 @@
--- How large an answer is: a play's number is at most 14 and the record writer's at most 22, and the detail of both at most 2^56 - 1.
+-- How large an answer is: a play's number is at most 14, the record writer's and the reader's at most 22, and the detail of each at most
+-- 2^56 - 1.
 -- Assumes nothing.
 use Prim.Native.Nat.{_≤_}
+use mathlib.Core.Path.{refl}
 use mathlib.Core.Bool.{Bool, true, false, cond}
 use native.Mathlib.Omega.{arith}
 use Rattle.board.specs.declared.Fault.{Fault}
@@ -20,7 +22,13 @@ use Rattle.records.specs.declared.PlanRefusal.the-variants.{Board as BadBoard, 
 use Rattle.records.specs.declared.Written.{Written}
 use Rattle.records.specs.declared.Written.the-variants.{Record, Refused as Unwritten}
 use Rattle.records.specs.Answers.{refusalNumber as unwrittenNumber, answerNumber as writtenNumber}
-use Rattle.lowpengine.specs.Packed.{farthest, playDetail, recordDetail}
+use Rattle.records.specs.declared.Numbers.{Numbers}
+use Rattle.records.specs.declared.ReadRefusal.{ReadRefusal}
+use Rattle.records.specs.declared.ReadRefusal.the-variants.{CutShort, BadNumber, BadSide, LongList, BytesAfter, WrongMark, Plan}
+use Rattle.records.specs.declared.ReadAnswer.{ReadAnswer}
+use Rattle.records.specs.declared.ReadAnswer.the-variants.{Fields, Refused as Unread}
+use Rattle.records.specs.Readings.{unreadNumber, readingNumber}
+use Rattle.lowpengine.specs.Packed.{farthest, playDetail, recordDetail, Narrow, NarrowIn, packedNumbers, readingDetail}
 
 pub fault-number : (f : Fault) → faultNumber f ≤ 4
 fault-number BadShape = omega arith
@@ -88,3 +96,33 @@ record-number (Unwritten why) = unwritten-number why
 pub record-detail : (a : Written) → recordDetail a ≤ farthest
 record-detail (Record length) = omega arith
 record-detail (Unwritten why) = omega arith
+
+unread-number : (why : ReadRefusal) → unreadNumber why ≤ 22
+unread-number (CutShort i) = omega arith
+unread-number (BadNumber i) = omega arith
+unread-number (BadSide i) = omega arith
+unread-number (LongList i) = omega arith
+unread-number (BytesAfter i) = omega arith
+unread-number WrongMark = omega arith
+unread-number (Plan why) = unwritten-number why
+
+-- and each refusal has a number
+pub unread-some : (why : ReadRefusal) → 1 ≤ unreadNumber why
+unread-some (CutShort i) = omega arith
+unread-some (BadNumber i) = omega arith
+unread-some (BadSide i) = omega arith
+unread-some (LongList i) = omega arith
+unread-some (BytesAfter i) = omega arith
+unread-some WrongMark = omega arith
+unread-some (Plan why) = unwritten-some why
+
+pub reading-number : (a : ReadAnswer) → readingNumber a ≤ 22
+reading-number (Fields n) = omega arith
+reading-number (Unread why) = unread-number why
+
+numbers-detail : (n : Numbers) → Narrow n → packedNumbers n ≤ farthest
+numbers-detail n narrow = omega arith
+
+pub reading-detail : (a : ReadAnswer) → NarrowIn a → readingDetail a ≤ farthest
+reading-detail (Fields n) narrow = numbers-detail n (narrow n refl)
+reading-detail (Unread why) narrow = omega arith
