@@ -39,6 +39,7 @@ static const char *reason(enum lowpengine_result number) {
     case LOWPENGINE_MALFORMED_TEXT: return "no job line";
     case LOWPENGINE_BAD_MOVE: return "no such move";
     case LOWPENGINE_OFF_GRID: return "a move off the grid";
+    case LOWPENGINE_NOT_LOWEST: return "the weight is in lowest terms";
     case LOWPENGINE_CUT_SHORT: return "the record is cut short";
     case LOWPENGINE_BAD_NUMBER: return "no number of a record is written so";
     case LOWPENGINE_WRONG_MARK: return "the record was changed on its way";

@@ -37,8 +37,8 @@ enum lowpengine_move { LOWPENGINE_UP = 0, LOWPENGINE_LEFT = 1, LOWPENGINE_RIGHT 
 
 /*
  * What an answer says: 0 if it was done, else why it was refused. Each number has one name, whichever entry answers it, so one
- * switch can serve all entries. The planner entries answer 0 to 11; lowpengine_play answers 0, 1 to 4, 8, 13 and 14;
- * lowpengine_write_record answers 0, 1 to 8, 13, 14, 21 and 22; lowpengine_read_record the same but 2, and 17 to 20;
+ * switch can serve all entries. The planner entries answer 0 to 11 and 15; lowpengine_play answers 0, 1 to 4, 8, 13 and 14;
+ * lowpengine_write_record answers 0, 1 to 8, 13 to 15, 21 and 22; lowpengine_read_record the same but 2, and 17 to 20;
  * lowpengine_reachable answers 0, 1 to 4 and 9.
  */
 enum lowpengine_result {
@@ -57,6 +57,7 @@ enum lowpengine_result {
     LOWPENGINE_MALFORMED_TEXT = 12, /* of the job program alone: its input is no job line; no entry answers this */
     LOWPENGINE_BAD_MOVE = 13,       /* a byte of the move list is above 3; the place is its index */
     LOWPENGINE_OFF_GRID = 14,       /* a move takes the empty cell off the grid; the place is its index */
+    LOWPENGINE_NOT_LOWEST = 15,     /* the weight p over q is not in lowest terms: some number above 1 divides both p and q */
     LOWPENGINE_CUT_SHORT = 17,      /* a record ends too early; the place is its length */
     LOWPENGINE_BAD_NUMBER = 18,     /* a number in a record has a group too many or is over 32 bits; the place is its first byte */
     LOWPENGINE_WRONG_MARK = 19,     /* a record's mark is not that of the bytes before it */
@@ -70,18 +71,19 @@ enum lowpengine_result {
  *
  *   ceiling  the most moves that the plan may have, 0 to 120
  *   budget   the most positions that the search may visit, 1 to 1,000,000; a position visited again counts again
- *   p, q     the weight p over q, at least 1 over 1 and p at most 64. A plan of L moves has q * L <= p * D for every list of D
- *            moves to the goal: 1 over 1 gives a shortest plan, a larger weight a longer one in fewer visits as a rule
+ *   p, q     the weight p over q, at least 1 over 1, p at most 64, and in lowest terms. A plan of L moves has q * L <= p * D for
+ *            every list of D moves to the goal: 1 over 1 gives a shortest plan, a larger weight a longer one in fewer visits as
+ *            a rule
  *   moves    receives the plan; at least `ceiling` bytes
  *   table    at least 4 * (ceiling + 1) numbers of two bytes. Its length is tested (8), and after a search that many numbers
  *            are cleared; nothing is read from it, for the search keeps its numbers on the stack. An odd last byte is not
  *            counted and never touched. It need not be aligned
  *
- * The arguments are tested in the order of the numbers 1 to 9, and the first that applies is the answer. Then the search runs
- * and ends in a plan, in 10 or in 11. What stood in moves and table before the call never matters.
+ * The arguments are tested in the order of the numbers 1 to 7, then 15, 8 and 9, and the first that applies is the answer. Then
+ * the search runs and ends in a plan, in 10 or in 11. What stood in moves and table before the call never matters.
  *
  *   afterwards         moves                        table
- *   refused, 1 to 9    as before                    as before
+ *   1 to 9, and 15     as before                    as before
  *   refused, 10 or 11  as before                    4 * (ceiling + 1) numbers that are 0, then as before
  *   a plan             its L moves, then as before  4 * (ceiling + 1) numbers that are 0, then as before
  *
@@ -126,7 +128,7 @@ uint64_t lowpengine_play(uint32_t width, uint32_t height, const uint8_t *board, 
  * the top bit set on all groups but the last and no group too many: one byte below 128, two below 16,384, three for the largest
  * visits. The mark is 32-bit FNV-1a (start 2166136261, factor 16777619) of all bytes before it.
  *
- * Tested in this order: 1 to 4 as above; 5, 6 (the visits) and 7; 21 if there are more moves than the ceiling; the moves one after
+ * Tested in this order: 1 to 4 as above; 5, 6 (the visits), 7 and 15; 21 if there are more moves than the ceiling; the moves one after
  * the other, and the first bad one is the answer, 13 or 14; 22 if the list does not end at the goal; 8 if out is shorter than
  * the record. So what is written leads to the goal within the ceiling. That a search found it is not tested: any such list is
  * taken. When the number is 0, out begins with the record and the rest of out stays. A refusal leaves the whole of out as
@@ -148,7 +150,7 @@ uint64_t lowpengine_write_record(uint32_t width, uint32_t height, const uint8_t 
  * The numbers are read one after the other, and the first fault met is the answer: 17 if the bytes end; 18 if a number begins with
  * byte 128, has the top bit set on its fifth byte or is over 32 bits; 1 if a width or height is not 2, 3 or 4, before what follows
  * it is read; 21 if there are more than 120 moves. Then 17 if the moves or the mark are cut short, 20 if bytes follow the mark, 19
- * if the mark is wrong. Then as lowpengine_write_record tests: 3 and 4, 5 to 7, 21, 13 or 14, 22, and 8 if out is shorter than
+ * if the mark is wrong. Then as lowpengine_write_record tests: 3 and 4, 5 to 7, 15, 21, 13 or 14, 22, and 8 if out is shorter than
  * the cells and the moves. So what is read leads to the goal within the ceiling, and lowpengine_write_record writes it as the same
  * bytes. When the number is 0, out begins with cells and moves and the rest of out stays. A refusal leaves the whole of out as
  * before. What stood in out never matters.
@@ -180,7 +182,7 @@ static inline uint32_t lowpengine_cell(uint64_t answer) { return (uint32_t)(answ
 /* Of a plan answer: the moves in the plan, 0 for a refusal. */
 static inline uint32_t lowpengine_length(uint64_t answer) { return (uint32_t)(answer >> 16 & 0xffff); }
 
-/* Of a plan answer: the visits made, 0 for 1 to 9. */
+/* Of a plan answer: the visits made, 0 in a refusal but 10 and 11. */
 static inline uint32_t lowpengine_visits(uint64_t answer) { return (uint32_t)(answer >> 32); }
 
 /* Of a refused play or record: the cell of 3 and 4, the index of the bad move of 13 and 14, a byte of a record read, else 0. */

@@ -21,6 +21,7 @@ static const char *plan_case(uint64_t answer) {
     case LOWPENGINE_UNREACHABLE: return "unreachable";
     case LOWPENGINE_NO_PLAN: return "no plan";
     case LOWPENGINE_BUDGET_SPENT: return "spent";
+    case LOWPENGINE_NOT_LOWEST: return "not lowest";
     default: return "no answer of a planner entry";
     }
 }
@@ -56,6 +57,7 @@ static const char *record_case(uint64_t answer) {
     case LOWPENGINE_OFF_GRID: return lowpengine_place(answer) == 1 ? "off the grid" : "off the grid at another place";
     case LOWPENGINE_ABOVE_CEILING: return "above the ceiling";
     case LOWPENGINE_NOT_SOLVED: return "not solved";
+    case LOWPENGINE_NOT_LOWEST: return "not lowest";
     default: return "no answer of the record writer";
     }
 }
@@ -74,7 +76,7 @@ static const char *reading_case(uint64_t answer) {
             && lowpengine_read_visits(answer) == 7 && lowpengine_read_length(answer) == 2)
             return "read";
         if (lowpengine_read_width(answer) == 4 && lowpengine_read_height(answer) == 4 && lowpengine_read_cells(answer) == 16
-            && lowpengine_read_ceiling(answer) == 120 && lowpengine_read_p(answer) == 64 && lowpengine_read_q(answer) == 64
+            && lowpengine_read_ceiling(answer) == 120 && lowpengine_read_p(answer) == 64 && lowpengine_read_q(answer) == 63
             && lowpengine_read_visits(answer) == 1000000 && lowpengine_read_length(answer) == 120)
             return "longest record read";
         return "read to other fields";
@@ -93,6 +95,7 @@ static const char *reading_case(uint64_t answer) {
     case LOWPENGINE_BYTES_AFTER: return lowpengine_place(answer) == 17 ? "bytes after" : "bytes after another place";
     case LOWPENGINE_ABOVE_CEILING: return lowpengine_place(answer) == 10 ? "more than a record holds" : "above the ceiling";
     case LOWPENGINE_NOT_SOLVED: return "not solved";
+    case LOWPENGINE_NOT_LOWEST: return "not lowest";
     default: return "no answer of the record reader";
     }
 }
@@ -128,6 +131,7 @@ static int number_of(uint64_t answer) {
     case LOWPENGINE_MALFORMED_TEXT: return 12;
     case LOWPENGINE_BAD_MOVE: return 13;
     case LOWPENGINE_OFF_GRID: return 14;
+    case LOWPENGINE_NOT_LOWEST: return 15;
     case LOWPENGINE_CUT_SHORT: return 17;
     case LOWPENGINE_BAD_NUMBER: return 18;
     case LOWPENGINE_WRONG_MARK: return 19;
@@ -208,7 +212,7 @@ static void longest(size_t room, const char *wanted, int number) {
         board[i] = i;
     for (size_t i = 0; i < LOWPENGINE_MOVES; i++)
         moves[i] = i % 2 == 0 ? LOWPENGINE_RIGHT : LOWPENGINE_LEFT;
-    uint64_t answer = lowpengine_write_record(4, 4, board, sizeof board, LOWPENGINE_MOVES, 64, 64, 1000000, moves, sizeof moves,
+    uint64_t answer = lowpengine_write_record(4, 4, board, sizeof board, LOWPENGINE_MOVES, 64, 63, 1000000, moves, sizeof moves,
                                               out, room);
     expect(record_case(answer), wanted, number_of(answer), number);
     if (lowpengine_number(answer) != LOWPENGINE_DONE)
@@ -237,6 +241,8 @@ int main(void) {
     const uint8_t odd[] = {0, 2, 1, 3};
     uint64_t answer = lowpengine_plan_short(2, 2, odd, sizeof odd, 6, 9, moves, sizeof moves, table, sizeof table);
     expect(plan_case(answer), "unreachable", number_of(answer), 9);
+    answer = lowpengine_plan(2, 2, odd, sizeof odd, 6, 9, 9, 6, moves, sizeof moves, table, sizeof table);
+    expect(plan_case(answer), "not lowest", number_of(answer), 15);
 
     play(2, 4, 3, LOWPENGINE_LEFT, 4, "played to the goal", 0);
     play(2, 4, 3, LOWPENGINE_DOWN, 4, "played", 0);
@@ -261,6 +267,10 @@ int main(void) {
     record(2, 4, 0, 2, 3, 1, LOWPENGINE_UP, 17, "off the grid", 14);
     record(2, 4, 0, 1, 3, 1, LOWPENGINE_LEFT, 17, "above the ceiling", 21);
     record(2, 4, 0, 2, 3, 1, LOWPENGINE_DOWN, 17, "not solved", 22);
+    const uint8_t board[] = {1, 3, 2, 0}, two[] = {LOWPENGINE_UP, LOWPENGINE_LEFT};
+    uint8_t stored[LOWPENGINE_RECORD_BYTES];
+    answer = lowpengine_write_record(2, 2, board, sizeof board, 1, 4, 2, 3, two, sizeof two, stored, sizeof stored);
+    expect(record_case(answer), "not lowest", number_of(answer), 15);
     longest(LOWPENGINE_RECORD_BYTES, "longest record", 0);
     longest(LOWPENGINE_RECORD_BYTES - 1, "short", 8);
 
@@ -271,6 +281,7 @@ int main(void) {
     read_back(6, 121, 17, 6, "ceiling", 5);
     read_back(9, 0, 17, 6, "visits", 6);
     read_back(7, 65, 17, 6, "weight", 7);
+    read_back(8, 5, 17, 6, "not lowest", 15);
     read_back(0, 2, 17, 5, "short", 8);
     read_back(12, 4, 17, 6, "bad move", 13);
     read_back(12, LOWPENGINE_UP, 17, 6, "off the grid", 14);

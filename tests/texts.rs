@@ -2,8 +2,8 @@
 //!
 //!   texts INPUT OUTPUT FILE..
 //!
-//! A line of a FILE is a text and, behind a bar, its answer line. The text is in hex, as in texts-after-e3.txt, or it is a job line with
-//! its line feed left off, as in jobs-after-e3.txt: a line with a space before the bar is a job line.
+//! A line of a FILE is a text and, behind a bar, its answer line. The text is in hex, as in texts-after-e5.txt, or it is a job line with
+//! its line feed left off, as in jobs-after-e5.txt: a line with a space before the bar is a job line.
 use std::{env, fs};
 
 fn text(field: &str) -> Vec<u8> {

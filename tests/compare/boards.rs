@@ -9,10 +9,10 @@ use second::search::{self, End};
 
 /// Weights that are taken.
 pub const WEIGHTS: [(u32, u32); 12] =
-    [(1, 1), (2, 2), (64, 64), (3, 2), (5, 3), (2, 1), (7, 2), (5, 1), (64, 63), (33, 7), (64, 3), (64, 1)];
+    [(1, 1), (4, 3), (63, 62), (3, 2), (5, 3), (2, 1), (7, 2), (5, 1), (64, 63), (33, 7), (64, 3), (64, 1)];
 
-/// Weights that are refused.
-pub const BAD_WEIGHTS: [(u32, u32); 12] = [
+/// Weights that are refused, the last four for a common divisor.
+pub const BAD_WEIGHTS: [(u32, u32); 16] = [
     (0, 0),
     (1, 0),
     (64, 0),
@@ -25,6 +25,10 @@ pub const BAD_WEIGHTS: [(u32, u32); 12] = [
     (257, 1),
     (u32::MAX, 1),
     (u32::MAX, u32::MAX),
+    (2, 2),
+    (9, 6),
+    (62, 31),
+    (64, 64),
 ];
 
 pub fn order(shape: Shape, board: &[u8], ceiling: i32, budget: u32, (p, q): (u32, u32)) -> Order<'_> {

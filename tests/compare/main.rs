@@ -20,6 +20,7 @@ mod readings;
 mod records;
 mod small;
 mod vectors;
+mod weights;
 mod wild;
 
 use bound::Distances;
@@ -50,6 +51,7 @@ fn tasks(vectors: Option<PathBuf>, share: usize) -> Vec<Task> {
         tasks.push(Box::new(move |checker| ceilings::run(checker, part, 126usize.div_ceil(share))));
         tasks.push(Box::new(move |checker| wild::run(checker, part, 2_500usize.div_ceil(share))));
         tasks.push(Box::new(move |checker| plays::run(checker, part, 180usize.div_ceil(share))));
+        tasks.push(Box::new(move |checker| weights::run(checker, part, PARTS)));
         tasks.push(Box::new(move |checker| records::run(checker, part, 60usize.div_ceil(share))));
         tasks.push(Box::new(move |checker| readings::run(checker, part, 6usize.div_ceil(share))));
         tasks.push(Box::new(move |checker| reaches::lists(checker, part, PARTS, share)));
@@ -98,13 +100,14 @@ fn run(tasks: &[Task], command: &[String]) -> Tally {
 
 /// The answers that each entry must have given at least once.
 fn missing(tally: &Tally) -> Vec<String> {
-    let plans = (0..=11).filter(|number| !tally.plans.contains_key(number)).map(|number| format!("plan {number}"));
+    let numbers = (0..=11).chain([15]);
+    let plans = numbers.filter(|number| !tally.plans.contains_key(number)).map(|number| format!("plan {number}"));
     let numbers = [0, 1, 2, 3, 4, 8, 13, 14].into_iter();
     let plays = numbers.filter(|number| !tally.plays.contains_key(number)).map(|number| format!("play {number}"));
-    let numbers = (0..=8).chain([13, 14, 21, 22]);
+    let numbers = (0..=8).chain([13, 14, 15, 21, 22]);
     let records = numbers.filter(|number| !tally.records.contains_key(number)).map(|number| format!("record {number}"));
     // a record has as many cells as its shape, so reading it is never refused by 2
-    let numbers = [0, 1].into_iter().chain(3..=8).chain([13, 14]).chain(17..=22);
+    let numbers = [0, 1].into_iter().chain(3..=8).chain(13..=15).chain(17..=22);
     let readings = numbers.filter(|number| !tally.readings.contains_key(number)).map(|number| format!("reading {number}"));
     let numbers = [0, 1, 2, 3, 4, 9].into_iter();
     let reaches = numbers.filter(|number| !tally.reaches.contains_key(number)).map(|number| format!("reach {number}"));

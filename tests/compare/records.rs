@@ -76,7 +76,7 @@ fn listed(checker: &mut Checker, random: &Random, shape: Shape) {
     // from the goal and back, so long as the list may be
     let goal = shape.goal();
     let round: Vec<u8> = (0..60).flat_map(|_| random.pick(&[[2, 1], [3, 0]])).collect();
-    let order = boards::order(shape, &goal.cells[..shape.cells()], 120, visits, (64, 64));
+    let order = boards::order(shape, &goal.cells[..shape.cells()], 120, visits, (64, 63));
     let lower = Order { ceiling: 119, ..order };
     for (order, moves) in [(order, &round[..]), (order, &round[..119]), (lower, &round[..]), (order, &[])] {
         outputs(checker, random, "records: there and back", &order, moves);

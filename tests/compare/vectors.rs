@@ -45,7 +45,7 @@ pub fn run(checker: &mut Checker, folder: &Path) {
 }
 
 fn texts(checker: &mut Checker, folder: &Path) {
-    for (hex, expected) in lines(folder, "texts-after-e3.txt") {
+    for (hex, expected) in lines(folder, "texts-after-e5.txt") {
         let wrote = job::run(&bytes(&hex));
         checker.claim("vectors: texts, second version", wrote == expected, || format!("{hex}\n  {wrote}, not {expected}"));
     }
@@ -53,7 +53,7 @@ fn texts(checker: &mut Checker, folder: &Path) {
 
 fn jobs(checker: &mut Checker, random: &Random, folder: &Path) {
     let (mut calls, mut wanted) = (Vec::new(), Vec::new());
-    for (line, expected) in lines(folder, "jobs-after-e3.txt") {
+    for (line, expected) in lines(folder, "jobs-after-e5.txt") {
         let text = format!("{line}\n");
         let wrote = job::run(text.as_bytes());
         checker.claim("vectors: jobs, second version", wrote == expected, || format!("{line}\n  {wrote}, not {expected}"));
@@ -94,7 +94,7 @@ fn plays(checker: &mut Checker, random: &Random, folder: &Path) {
 
 fn records(checker: &mut Checker, random: &Random, folder: &Path) {
     let (mut calls, mut wanted) = (Vec::new(), Vec::new());
-    for (line, expected) in lines(folder, "records-write.txt") {
+    for (line, expected) in lines(folder, "records-write-after-e5.txt") {
         let fields: Vec<&str> = line.split(':').collect();
         let [head, cells, moves] = fields[..] else { panic!("not a record: {line}") };
         let (head, cells, moves) = (numbers::<i64>(head), numbers::<u8>(cells), numbers::<u8>(moves));
@@ -127,7 +127,7 @@ fn records(checker: &mut Checker, random: &Random, folder: &Path) {
 
 fn readings(checker: &mut Checker, random: &Random, folder: &Path) {
     let (mut calls, mut wanted) = (Vec::new(), Vec::new());
-    for (line, expected) in lines(folder, "records-read.txt") {
+    for (line, expected) in lines(folder, "records-read-after-e5.txt") {
         let fields: Vec<&str> = line.split(' ').collect();
         let [record, out] = fields[..] else { panic!("not a record and a length: {line}") };
         let record = if record == "-" { Vec::new() } else { bytes(record) };

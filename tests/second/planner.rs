@@ -31,7 +31,16 @@ fn faulty(fault: Fault) -> Answer {
     Answer::Refused { number: fault.number(), cell: fault.cell(), visits: 0 }
 }
 
-/// The refusal for a ceiling, a budget or a weight beyond its limits.
+/// The greatest number that divides both.
+fn greatest_divisor(p: u32, q: u32) -> u32 {
+    if q == 0 {
+        p
+    } else {
+        greatest_divisor(q, p % q)
+    }
+}
+
+/// The refusal for a ceiling, a budget or a weight beyond its limits, or a weight that is not in lowest terms.
 pub fn beyond(order: &Order) -> Option<u8> {
     if order.ceiling < 0 || order.ceiling > 120 {
         return Some(5);
@@ -41,6 +50,9 @@ pub fn beyond(order: &Order) -> Option<u8> {
     }
     if order.q == 0 || order.p < order.q || order.p > 64 {
         return Some(7);
+    }
+    if greatest_divisor(order.p, order.q) > 1 {
+        return Some(15);
     }
     None
 }

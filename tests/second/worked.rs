@@ -54,6 +54,36 @@ fn limits_of_the_numbers() {
     }
 }
 
+/// 15 comes behind 7 and before 8 and 9.
+#[test]
+fn weights_in_lowest_terms() {
+    let rows = [
+        ("2 2 6 7 1 1 3 2 1 0", "plan 6 7 ULDRUL"),
+        ("2 2 6 7 2 2 3 2 1 0", "refused 15 0 0"),
+        ("2 2 6 7 64 64 3 2 1 0", "refused 15 0 0"),
+        ("2 2 6 7 63 61 3 2 1 0", "plan 6 7 ULDRUL"),
+        ("2 2 6 7 9 6 3 2 1 0", "refused 15 0 0"),
+        ("2 2 6 7 62 31 3 2 1 0", "refused 15 0 0"),
+        ("2 2 6 7 49 35 3 2 1 0", "refused 15 0 0"),
+        ("2 2 6 7 66 2 3 2 1 0", "refused 7 0 0"),
+        ("2 2 6 7 2 4 3 2 1 0", "refused 7 0 0"),
+        ("2 2 6 7 2 0 3 2 1 0", "refused 7 0 0"),
+        ("2 2 6 0 2 2 3 2 1 0", "refused 6 0 0"),
+        ("2 2 6 9 2 2 0 2 1 3", "refused 15 0 0"),
+    ];
+    for (job, expected) in rows {
+        assert_eq!(answer(job), expected, "{job}");
+    }
+}
+
+#[test]
+fn lowest_terms_before_the_buffers() {
+    let order = Order { width: 2, height: 2, board: &[3, 2, 1, 0], ceiling: 6, budget: 7, p: 4, q: 2 };
+    let (mut moves, mut table) = ([9; 5], [9; 27]);
+    assert_eq!(plan(&order, &mut moves, &mut table), Answer::Refused { number: 15, cell: 0, visits: 0 });
+    assert_eq!((moves, table), ([9; 5], [9; 27]));
+}
+
 /// The least budget does too where the distance is above the ceiling.
 #[test]
 fn one_visit_is_enough_below_the_distance() {
@@ -282,6 +312,7 @@ fn refusals_of_the_record_writer() {
         (Order { budget: 0, q: 0, ..STORED }, plan, 6, 0),
         (Order { budget: 1_000_001, ..STORED }, plan, 6, 0),
         (Order { q: 2, ceiling: 5, ..STORED }, plan, 7, 0),
+        (Order { p: 9, q: 6, ceiling: 5, ..STORED }, plan, 15, 0),
         (Order { ceiling: 5, ..STORED }, &[9; 6], 21, 0),
         (STORED, &[0, 4, 0], 13, 1),
         (STORED, &[0, 0, 4], 14, 1),
@@ -319,11 +350,11 @@ fn record_read_back() {
     let packed = 2 << 8 | 2 << 11 | 6 << 14 | 1 << 21 | 1 << 28 | 6 << 35 | 7 << 42;
     assert_eq!(entries::read_record(&record, &mut out), packed);
     assert_eq!(entries::read_record(&record[..20], &mut out), 17 | 20 << 8);
-    let widest = Order { width: 4, height: 4, budget: 1_000_000, p: 64, q: 64, ceiling: 120, ..STORED };
+    let widest = Order { width: 4, height: 4, budget: 1_000_000, p: 64, q: 63, ceiling: 120, ..STORED };
     let goal: Vec<u8> = (0..16).collect();
     let record = records::record(&Order { board: &goal, ..widest }, &[2, 1].repeat(60));
     assert_eq!(record.len(), 149);
-    let packed = 4 << 8 | 4 << 11 | 120 << 14 | 64 << 21 | 64 << 28 | 120 << 35 | 1_000_000 << 42;
+    let packed = 4 << 8 | 4 << 11 | 120 << 14 | 64 << 21 | 63 << 28 | 120 << 35 | 1_000_000 << 42;
     assert_eq!(entries::read_record(&record, &mut [0; 136]), packed);
 }
 
@@ -373,6 +404,7 @@ fn order_of_the_reader() {
         (marked(&with(6, 4, &[121, 1, 2, 0])), 5, 0),
         (marked(&with(6, 4, &[5, 1, 2, 0])), 6, 0),
         (marked(&with(6, 4, &[5, 1, 2, 1])), 7, 0),
+        (marked(&with(6, 4, &[5, 2, 2, 1])), 15, 0),
         (marked(&with(6, 11, &[5, 1, 1, 7, 6, 9, 9, 9, 9, 9, 9])), 21, 0),
         (marked(&with(11, 6, &[0, 4, 0, 0, 0, 0])), 13, 1),
         (marked(&with(11, 6, &[0, 0, 4, 4, 4, 4])), 14, 1),

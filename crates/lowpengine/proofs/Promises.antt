@@ -10,7 +10,7 @@
 -- Assumes nothing.
 use Prim.Native.Nat.{ℕ, _+_, _*_, _/_, _%_, _^_, _≤_, _<_, min}
 use mathlib.Core.Path.{_≡_, refl, sym, ap, subst, _∙_}
-use mathlib.Core.Logic.{_↔_, _⊎_, ⊎-elim, inl, inr}
+use mathlib.Core.Logic.{_↔_, _⊎_, inl, inr}
 use mathlib.Core.Bool.{Bool, true, false, cond}
 use mathlib.Core.List.{List, [], _∷_, _++_}
 use native.Mathlib.Omega.{arith}
@@ -33,13 +33,15 @@ use Rattle.planner.specs.declared.Answer.{Answer}
 use Rattle.planner.specs.declared.Answer.the-variants.{Planned, Refused as Refusing}
 use Rattle.planner.specs.Limits.{ceilingOf, limitTests}
 use Rattle.planner.specs.Answer.{called, shortBuffer}
-use Rattle.planner.specs.Answer.{Call, shapeOf, tests, answered, refusalNumber, refusalCell, number, cell, planLength, visits, searchRan}
+use Rattle.planner.specs.Answer.{Call, shapeOf, tests, answered, refusalNumber, refusalCell, TestNumber, LateNumber, SearchNumber}
+use Rattle.planner.specs.Answer.{number, cell, planLength, visits, searchRan}
 use Rattle.planner.proofs.Promises as plan
 use Rattle.planner.proofs.theory.Kept.{Returned, OutOf}
 use Rattle.planner.proofs.theory.OddBoards.{OddAlone}
 use Rattle.planner.proofs.theory.Numbers.{IsPlan, plan-by-number, IsNoPlan, no-plan-by-number, IsSpent, spent-by-number}
-use Rattle.planner.proofs.theory.Numbers.{odd-by-number, by-test, by-search}
-use Rattle.planner.proofs.theory.Ways.{Way, refused, ran, way}
+use Rattle.planner.proofs.theory.Numbers.{odd-by-number, not-lowest-by-number, by-test, by-search}
+use Rattle.planner.proofs.theory.Ways.{apart, Way, refused, ran, way}
+use Rattle.planner.proofs.theory.Lowest.{PastSeven}
 use Rattle.planner.proofs.theory.Lending.{lending, by-length, same-moves}
 use Rattle.player.specs.declared.PlayRefusal.{PlayRefusal}
 use Rattle.player.specs.declared.Played.{Played}
@@ -170,10 +172,10 @@ module _ (c : Call) (bytes : AllBytes (c .table)) (r : ℕ) (moves′ table′ :
 
   -- ---- B1: which result is given
 
-  -- 1 to 9 exactly when that test holds and no earlier one does, with its cell
-  pub refused-exactly : (k : ℕ) → 1 ≤ k → k ≤ 9 → (r % 256 ≡ k) ↔ RefusedBy (inNumbers c) k (r / 256 % 256)
+  -- 1 to 9 and 15 exactly when that test holds and no earlier one does, with its cell
+  pub refused-exactly : (k : ℕ) → TestNumber k → (r % 256 ≡ k) ↔ RefusedBy (inNumbers c) k (r / 256 % 256)
   unfolding answer
-  refused-exactly k low high = (λ e. go (way (inNumbers c)) (sym (fields .number-read) ∙ e), λ it. gives it)
+  refused-exactly k early = (λ e. go (way (inNumbers c)) (sym (fields .number-read) ∙ e), λ it. gives it)
     where
       go : Way (inNumbers c) → number answer ≡ k → RefusedBy (inNumbers c) k (r / 256 % 256)
       go (refused {why} first w) e =
@@ -185,14 +187,12 @@ module _ (c : Call) (bytes : AllBytes (c .table)) (r : ℕ) (moves′ table′ :
             cell-is = sym (ap cell is) ∙ sym (fields .cell-read);
           }
       go (ran passed o run w) e =
-          absurd
-          (⊎-elim (λ (z : number answer ≡ 0). omega arith) (λ (z : 10 ≤ number answer). omega arith)
-          (plan.else-a-search (inNumbers c) passed))
+          absurd (apart early (subst SearchNumber e (plan.else-a-search (inNumbers c) passed)))
 
       gives : RefusedBy (inNumbers c) k (r / 256 % 256) → r % 256 ≡ k
       gives it =
-          let small : refusalNumber (it .why) ≤ 9 = omega (arith, it .number-is) in
-          fields .number-read ∙ ap number (plan.refused-exactly (inNumbers c) (it .why) small .1 (it .first)) ∙ it .number-is
+          let why-early = subst TestNumber (sym (it .number-is)) early in
+          fields .number-read ∙ ap number (plan.refused-exactly (inNumbers c) (it .why) why-early .1 (it .first)) ∙ it .number-is
 
   -- 10 exactly when no test holds and the search returns infinity, 11 exactly when none holds and it is spent; with its visits
   pub no-plan-exactly : (r % 256 ≡ 10) ↔ Returned (inNumbers c) (r / 2 ^ 32)
@@ -215,9 +215,19 @@ module _ (c : Call) (bytes : AllBytes (c .table)) (r : ℕ) (moves′ table′ :
           let count = sym (ap visits (it .is)) ∙ sym (fields .visits-read) in
           plan.out-of-visits-exactly (inNumbers c) (r / 2 ^ 32) .0 (it .is ∙ ap (λ v. Refusing (OutOfVisits v)) count)
 
-  pub none-above-11 : r % 256 ≤ 11
+  -- no result has another number: 0, or one of the twelve refusals 1 to 11 and 15
+  pub no-other-number : TestNumber (r % 256) ⊎ SearchNumber (r % 256)
   unfolding answer
-  none-above-11 = omega (arith, fields .number-read, plan.none-above-11 (inNumbers c))
+  no-other-number =
+      subst (λ (k : ℕ). TestNumber k ⊎ SearchNumber k) (sym (fields .number-read)) (plan.no-other-number (inNumbers c))
+
+  -- 15 exactly when none of 1 to 7 holds and some number above 1 divides both p and q
+  pub not-lowest-exactly : (r % 256 ≡ 15) ↔ PastSeven (inNumbers c)
+  unfolding answer
+  not-lowest-exactly = (given-then, λ it. fields .number-read ∙ ap number (plan.not-lowest-exactly (inNumbers c) .1 it))
+    where
+      given-then : r % 256 ≡ 15 → PastSeven (inNumbers c)
+      given-then e = plan.not-lowest-exactly (inNumbers c) .0 (not-lowest-by-number answer (sym (fields .number-read) ∙ e))
 
   -- ---- B1: the lent bytes
 
@@ -228,31 +238,27 @@ module _ (c : Call) (bytes : AllBytes (c .table)) (r : ℕ) (moves′ table′ :
       let left : Used (inNumbers c) k = subst (Used (inNumbers c)) is (used (inNumbers c)) in
       given .table ∙ ap (λ l. bytesOf l ++ oddByte (c .table)) (left .left) ∙ cleared-bytes k (c .table) bytes (left .within)
 
-  -- refusals 1 to 9 leave every lent byte as found
-  pub early-refusals-leave : 1 ≤ r % 256 → r % 256 ≤ 9 → (moves′ ≡ c .moves) × (table′ ≡ c .table)
+  -- refusals 1 to 9 and 15 leave every lent byte as found
+  pub early-refusals-leave : TestNumber (r % 256) → (moves′ ≡ c .moves) × (table′ ≡ c .table)
   unfolding answer
-  early-refusals-leave low high =
-      let low′ : 1 ≤ number answer = omega (arith, fields .number-read) in
-      let high′ : number answer ≤ 9 = omega (arith, fields .number-read) in
-      let none-used = ap (λ b. numbersUsed b (c .ceiling)) (by-test answer low′ high′) in
-      (given .moves ∙ plan.early-refusals-touch-nothing (inNumbers c) low′ high′ .0, bytes-left 0 none-used)
+  early-refusals-leave early =
+      let by : TestNumber (number answer) = subst TestNumber (fields .number-read) early in
+      let none-used = ap (λ b. numbersUsed b (c .ceiling)) (by-test answer by) in
+      (given .moves ∙ plan.early-refusals-touch-nothing (inNumbers c) by .0, bytes-left 0 none-used)
 
   -- 10 and 11 leave the moves as found
-  pub late-refusals-leave : 10 ≤ r % 256 → moves′ ≡ c .moves
+  pub late-refusals-leave : LateNumber (r % 256) → moves′ ≡ c .moves
   unfolding answer
-  late-refusals-leave late = given .moves ∙ plan.late-refusals-clear (inNumbers c) (omega (arith, fields .number-read)) .0
+  late-refusals-leave late = given .moves ∙ plan.late-refusals-clear (inNumbers c) (subst LateNumber (fields .number-read) late) .0
 
   -- a plan, 10 and 11 leave zeros in the first 8 × (ceiling + 1) bytes of the table, and every other byte as found
-  pub search-clears : (r % 256 ≡ 0) ⊎ (10 ≤ r % 256)
+  pub search-clears : SearchNumber (r % 256)
       → table′ ≡ replicate (8 * (ceilingOf (c .ceiling) + 1)) 0 ++ drop (8 * (ceilingOf (c .ceiling) + 1)) (c .table)
   search-clears ended =
-      bytes-left (rowsFor (ceilingOf (c .ceiling))) (ap (λ b. numbersUsed b (c .ceiling)) (by-search answer (of ended)))
+      let ran = by-search answer (subst SearchNumber (fields .number-read) ended) in
+      bytes-left (rowsFor (ceilingOf (c .ceiling))) (ap (λ b. numbersUsed b (c .ceiling)) ran)
       ∙ ap (λ n. replicate n 0 ++ drop n (c .table)) eightfold
     where
-      of : (r % 256 ≡ 0) ⊎ (10 ≤ r % 256) → (number answer ≡ 0) ⊎ (10 ≤ number answer)
-      of (inl e) = inl (sym (fields .number-read) ∙ e)
-      of (inr late) = inr (omega (arith, fields .number-read))
-
       eightfold : 2 * rowsFor (ceilingOf (c .ceiling)) ≡ 8 * (ceilingOf (c .ceiling) + 1)
       eightfold = omega arith
 
@@ -521,7 +527,7 @@ module _
   pub reach-zero-never-9 : r % 256 ≡ 0 → s % 256 ≡ 9 → ⊥
   reach-zero-never-9 zero-number e = let nine = planned-odd-reach e in omega arith
 
-  -- and where tests 5 to 8 pass the planner gives 9 exactly where the test does
+  -- and where tests 5 to 8 and 15 pass the planner gives 9 exactly where the test does
   pub reach-as-planned :
       NoneHolds (limitTests ceiling budget p q)
       → shortBuffer (ceilingOf ceiling) (length moves) (length (numbers table)) ≡ false

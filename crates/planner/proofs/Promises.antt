@@ -5,9 +5,11 @@
 --     B2   playing the plan reaches the goal, within the ceiling; the count of visits; what a spent budget means
 --     B3   the plan's length against every legal list; what 10 and 9 mean; a ceiling that can't be met; no number of the search comes near
 --          infinity
--- Proved in theory/, in Kept and Lending. Assumes nothing.
+--     E5   what the test for 15 means, and that one fraction is taken as one weight
+-- Proved in theory/, in Kept, Lowest and Lending. Assumes nothing.
 use Prim.Native.Nat.{ℕ, _+_, _*_, _≤_, _<_}
 use mathlib.Core.Path.{_≡_, subst, sym, _∙_}
+use mathlib.Core.Bool.{true}
 use mathlib.Core.List.{List, _++_}
 use mathlib.Core.Logic.{_↔_, _⊎_, inl}
 use native.Mathlib.Nat.{le-of-mul-le-mul-left}
@@ -23,19 +25,22 @@ use Rattle.search.specs.Search.{value, static, visit}
 use Rattle.search.proofs.theory.Theory.{value-within}
 use Rattle.search.proofs.code.BoardSpace.{board-laws}
 use Rattle.planner.specs.declared.Plan.{Plan}
+use Rattle.planner.specs.declared.Limit.the-variants.{NotLowest}
 use Rattle.planner.specs.declared.Refusal.{Refusal}
-use Rattle.planner.specs.declared.Refusal.the-variants.{NoPlan, OutOfVisits, OddBoard}
+use Rattle.planner.specs.declared.Refusal.the-variants.{Beyond, NoPlan, OutOfVisits, OddBoard}
 use Rattle.planner.specs.declared.Answer.{Answer}
 use Rattle.planner.specs.declared.Answer.the-variants.{Planned, Refused}
-use Rattle.planner.specs.Limits.{ceilingOf}
+use Rattle.planner.specs.Limits.{ceilingOf, CommonDivisor, sharesDivisor}
 use Rattle.planner.specs.Answer.{Call, Left, Settles, shapeOf, weightOf, tests, cleared, answered}
-use Rattle.planner.specs.Answer.{number, refusalNumber, visits}
+use Rattle.planner.specs.Answer.{number, refusalNumber, TestNumber, LateNumber, SearchNumber, visits}
 use Rattle.planner.proofs.theory.Ways.{clear}
-use Rattle.planner.proofs.theory.Kept.{ceiling-below-zero, given-exactly, else-searched, untouched-is, late-is, PlanMade, plan-made}
+use Rattle.planner.proofs.theory.Kept.{ceiling-below-zero, given-exactly, else-searched, each-number, untouched-is, late-is}
+use Rattle.planner.proofs.theory.Kept.{PlanMade, plan-made}
 use Rattle.planner.proofs.theory.Kept.{visits-counted, Returned, no-plan-is, no-plan-means, OutOf, out-of-visits-is, budgeted}
 use Rattle.planner.proofs.theory.Kept.{spent-before-plan, spent-before-none, at-once, odd-board-means, static-most, capped}
+use Rattle.planner.proofs.theory.Divisors.{shares-exactly}
+use Rattle.planner.proofs.theory.Lowest.{PastSeven, not-lowest-is, kept-lowest, kept-equal}
 use Rattle.planner.proofs.theory.OddBoards.{OddAlone, nine-exactly}
-use Rattle.planner.proofs.theory.Small.{answered-small}
 use Rattle.planner.proofs.theory.Lending.{lending, SameAnswer, by-length}
 
 module _ (c : Call) where
@@ -47,8 +52,8 @@ module _ (c : Call) where
 
   -- ---- B1: which answer is given
 
-  -- each of the refusals 1 to 9 is given exactly when its test holds and no earlier one does
-  pub refused-exactly : (r : Refusal) → refusalNumber r ≤ 9 → (answered c .answer ≡ Refused r) ↔ FirstToHold (tests c) r
+  -- each of the refusals 1 to 9 and 15 is given exactly when its test holds and no earlier one does
+  pub refused-exactly : (r : Refusal) → TestNumber (refusalNumber r) → (answered c .answer ≡ Refused r) ↔ FirstToHold (tests c) r
   refused-exactly = given-exactly c
 
   -- 10 exactly when none of them holds and the search returns infinity; v is the count of visits
@@ -59,24 +64,35 @@ module _ (c : Call) where
   pub out-of-visits-exactly : (v : ℕ) → (answered c .answer ≡ Refused (OutOfVisits v)) ↔ OutOf c v
   out-of-visits-exactly = out-of-visits-is c
 
-  -- 9 exactly when tests 1 to 8 pass and the board is odd (refused-exactly, spelled out for the reachability test by itself)
+  -- 9 exactly when tests 1 to 8 and 15 pass and the board is odd (refused-exactly, spelled out for the reachability test by itself)
   pub odd-board-exactly : (number (answered c .answer) ≡ 9) ↔ OddAlone c
   odd-board-exactly = nine-exactly c
 
-  -- where none of them holds the answer is a plan, 10 or 11, and no answer has a number above 11
-  pub else-a-search : NoneHolds (tests c) → (number (answered c .answer) ≡ 0) ⊎ (10 ≤ number (answered c .answer))
+  -- where none of them holds the answer is a plan, 10 or 11
+  pub else-a-search : NoneHolds (tests c) → SearchNumber (number (answered c .answer))
   else-a-search = else-searched c
 
-  pub none-above-11 : number (answered c .answer) ≤ 11
-  none-above-11 = answered-small c .number-most
+  -- no answer has another number: 0, or one of the twelve refusals 1 to 11 and 15
+  pub no-other-number : TestNumber (number (answered c .answer)) ⊎ SearchNumber (number (answered c .answer))
+  no-other-number = each-number c
+
+  -- 15 comes directly after 7: exactly when none of 1 to 7 holds and some number above 1 divides both p and q
+  pub not-lowest-exactly : (answered c .answer ≡ Refused (Beyond NotLowest)) ↔ PastSeven c
+  not-lowest-exactly = not-lowest-is c
+
+  -- a weight that is taken is in lowest terms
+  pub taken-lowest : NoneHolds (tests c) → CommonDivisor (c .p) (c .q) → ⊥
+  taken-lowest passed = kept-lowest (clear c passed .limits)
 
   -- ---- B1: the buffers
 
-  pub early-refusals-touch-nothing : 1 ≤ number (answered c .answer) → number (answered c .answer) ≤ 9
+  -- 1 to 9 and 15
+  pub early-refusals-touch-nothing : TestNumber (number (answered c .answer))
       → (answered c .moves ≡ c .moves) × (answered c .table ≡ c .table)
   early-refusals-touch-nothing = untouched-is c
 
-  pub late-refusals-clear : 10 ≤ number (answered c .answer) → (answered c .moves ≡ c .moves) × (answered c .table ≡ cleared c)
+  -- 10 and 11
+  pub late-refusals-clear : LateNumber (number (answered c .answer)) → (answered c .moves ≡ c .moves) × (answered c .table ≡ cleared c)
   late-refusals-clear = late-is c
 
   -- with anything else in buffers of the same lengths the answer is the same, and so are the moves of a plan; the other moves stay
@@ -163,6 +179,16 @@ module _ (c : Call) where
         let clean = clear c passed in
         value-within (boards (shapeOf c)) (IsBoard (shapeOf c)) (board-laws (shapeOf c) (clean .shape)) (ceilingOf (c .ceiling)) 13440
         (static (boards (shapeOf c)) (weightOf c)) (capped c clean) g last b board stored (inl small) deeper bound left depth run
+
+-- ---- E5: one wish, one weight
+
+-- the test for 15 holds exactly where some number above 1 divides both
+pub shares-divisor-exactly : (p q : ℕ) → (sharesDivisor p q ≡ true) ↔ CommonDivisor p q
+shares-divisor-exactly = shares-exactly
+
+-- two weights that are taken and are the same fraction are equal
+pub same-fraction : (c d : Call) → NoneHolds (tests c) → NoneHolds (tests d) → c .p * d .q ≡ d .p * c .q → (c .p ≡ d .p) × (c .q ≡ d .q)
+same-fraction c d passed passed′ = kept-equal (clear c passed .limits) (clear d passed′ .limits)
 
 -- ---- the call's contract allows one result
 

@@ -19,7 +19,7 @@ use Rattle.search.specs.Search.{static, takenUp, turn, work, unlessGoal, isSucc
 use Rattle.planner.specs.declared.Refusal.the-variants.{Board, OddBoard, NoPlan, OutOfVisits}
 use Rattle.planner.specs.declared.Answer.{Answer}
 use Rattle.planner.specs.declared.Answer.the-variants.{Planned, Refused}
-use Rattle.planner.specs.Limits.{badCeiling, ceilingOf, badBudget, badWeight, limitTests}
+use Rattle.planner.specs.Limits.{badCeiling, ceilingOf, badBudget, badWeight, dividesBoth, sharesDivisor, limitTests}
 use Rattle.planner.specs.Answer.{called, shortBuffer, lastTests, tests, searched, concluded, afterTests, answered, planLength}
 
 -- a call at weight 1 over 1, and the answer with its moves that it must get
@@ -96,5 +96,6 @@ pub worked : map seen rows ≡ map expected rows
 unfolding seen expected plans refuses rows firstOf firstRefusal under emptyCell isGoal staysOn leadsTo legal slide after trayDistance
     distanceFrom distance lower inversions paritySum isOdd firstTooLarge firstHolding repeats firstRepeat faultTests better bestOf best
     masked second mayGoOn goesOn handedDown firstStored aboveCeiling static takenUp turn work unlessGoal isSuccessor firstEntry firstRow
-    visit search badCeiling ceilingOf badBudget badWeight limitTests shortBuffer lastTests tests searched concluded afterTests answered
+    visit search badCeiling ceilingOf badBudget badWeight dividesBoth sharesDivisor limitTests shortBuffer lastTests tests searched
+    concluded afterTests answered
 worked = refl

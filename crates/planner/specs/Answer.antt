@@ -1,7 +1,8 @@
--- The whole answer of a call (document 01, "Calling the planner"): tests 1 to 9 in their order, then the search; and what stands in both
+-- The whole answer of a call (document 01, "Calling the planner"): tests 1 to 7, 15, 8 and 9, then the search; and what stands in both
 -- buffers afterwards. Then the paper's number, cell, length and visits of each answer, and whether the search was run. Assumes nothing.
-use Prim.Native.Nat.{ℕ, _-_}
+use Prim.Native.Nat.{ℕ, _-_, _≤_}
 use mathlib.Core.Path.{_≡_}
+use mathlib.Core.Logic.{_⊎_}
 use mathlib.Core.Bool.{Bool, true, false, _||_}
 use mathlib.Core.List.{List, [], _∷_, _++_}
 use mathlib.Core.Option.{Option, none, some}
@@ -60,7 +61,7 @@ lastTests c =
     ∷ test (isOdd (shapeOf c) (c .board)) OddBoard
     ∷ []
 
--- tests 1 to 9, in their order: the board's, the limits', and these two
+-- tests 1 to 7, 15, 8 and 9: the board's, the limits', and these two
 unfoldable pub tests : Call → List (Test Refusal)
 tests c =
     under Board (faultTests (c .width) (c .height) (c .board))
@@ -71,7 +72,7 @@ unfoldable pub searched : Call → Outcome
 searched c =
     search (boards (shapeOf c)) (static (boards (shapeOf c)) (weightOf c)) (ceilingOf (c .ceiling)) (c .board) (c .budget)
 
--- refusals 1 to 9 leave both buffers as found
+-- what a test refuses leaves both buffers as found
 abbrev pub untouched : Call → Refusal → Left
 untouched c r = record { answer = Refused r; moves = c .moves; table = c .table }
 
@@ -124,6 +125,16 @@ refusalNumber ShortBuffer = 8
 refusalNumber OddBoard = 9
 refusalNumber (NoPlan v) = 10
 refusalNumber (OutOfVisits v) = 11
+
+-- the numbers of the tests, 1 to 9 and 15, and those of a search that was run: 0, or 10 and 11 where it refuses
+abbrev pub TestNumber : ℕ → Type 0
+TestNumber k = ((1 ≤ k) × (k ≤ 9)) ⊎ (k ≡ 15)
+
+abbrev pub LateNumber : ℕ → Type 0
+LateNumber k = (10 ≤ k) × (k ≤ 11)
+
+abbrev pub SearchNumber : ℕ → Type 0
+SearchNumber k = (k ≡ 0) ⊎ LateNumber k
 
 abbrev pub number : Answer → ℕ
 number (Planned pl) = 0

@@ -63,7 +63,7 @@ pub fn plan_short(
     plan(width, height, board, ceiling, budget, 1, 1, moves, table)
 }
 
-// Tests 5 to 7 of a sound board, and then what follows.
+// Tests 5 to 7 and 15 of a sound board, and then what follows.
 fn plan_board(
     shape: Shape,
     board: &[u8],

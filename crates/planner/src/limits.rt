@@ -1,14 +1,16 @@
-// Tests 5 to 7: a ceiling, a budget and a weight as they were given, any numbers. Every caller's tests 5 to 7 are these.
+// Tests 5 to 7 and 15: a ceiling, a budget and a weight as they were given, any numbers. Every caller's tests 5 to 7 and 15 are these.
 use crate::Limit;
 use crate::Measured;
 use crate::Terms;
 use search::Weight;
+ghost use Prim.Native.Nat.{_<_};
 ghost use mathlib.Core.Path.{_≡_};
 ghost use mathlib.Core.Bool.{false};
 ghost use Rattle.planner.specs.Limits.{badCeiling, ceilingOf, badBudget, badWeight, limitNumber};
+ghost use Rattle.planner.specs.Limits.{dividesBoth, sharesDivisor};
 ghost use Rattle.planner.specs.Limits.{measured as Limits·measured};
 
-// What tests 5 to 7 say, in their order.
+// What tests 5 to 7 and 15 say, in their order.
 pub fn measured(ceiling: i32, budget: u32, p: u32, q: u32) -> Measured
     ensures { λ r. ⌜ r ≡ Limits·measured ceiling budget p q ⌝ }
 {
@@ -20,6 +22,9 @@ pub fn measured(ceiling: i32, budget: u32, p: u32, q: u32) -> Measured
     }
     if bad_weight(p, q) {
         return Measured::Outside(Limit::BadWeight);
+    }
+    if shares_divisor(p, q) {
+        return Measured::Outside(Limit::NotLowest);
     }
     let weight = Weight {
         p: p as usize,
@@ -39,6 +44,7 @@ pub fn number(l: Limit) -> u32
         Limit::BadCeiling => 5,
         Limit::BadBudget => 6,
         Limit::BadWeight => 7,
+        Limit::NotLowest => 15,
     }
 }
 
@@ -72,4 +78,26 @@ fn bad_weight(p: u32, q: u32) -> bool
         return true;
     }
     p < q || 64 < p
+}
+
+// 15: some number above 1 divides both p and q, of a weight that passed test 7. None above q divides q.
+fn shares_divisor(p: u32, q: u32) -> bool
+    requires { ⌜ badWeight p q ≡ false ⌝ }
+    ensures { λ r. ⌜ r ≡ sharesDivisor p q ⌝ }
+{
+    let mut d = 2;
+    while d <= q {
+        if divides_both(p, q, d) {
+            return true;
+        }
+        d += 1;
+    }
+    false
+}
+
+fn divides_both(p: u32, q: u32, d: u32) -> bool
+    requires { ⌜ 0 < d ⌝ }
+    ensures { λ r. ⌜ r ≡ dividesBoth p q d ⌝ }
+{
+    p % d == 0 && q % d == 0
 }

@@ -4,9 +4,9 @@
 // first 4 × (ceiling + 1) table numbers are all 0 afterwards; and whether everything else in both buffers is as it was. The file stdout
 // has what each line must be.
 //
-// The file stdin has the jobs as the job program reads them, a line each: lines of tests/vectors/jobs-after-e3.txt, which has their
-// answers too. Of each shape a plan at weight 1 over 1, a plan at another weight, and a refusal 10 after one visit, 10 after more, 11
-// and 9; of 2 by 2, where that file has no other, both 10 are after one visit, the second at a budget of 1, and there is no 11.
+// The file stdin has the jobs as the job program reads them, a line each: lines of tests/vectors/jobs-after-e5.txt, which has their
+// answers too. Of each shape a plan at weight 1 over 1, a plan at another weight, and a refusal 10 after one visit, 10 after more, 11,
+// 9 and 15; of 2 by 2, where that file has no other, both 10 are after one visit, and there is no 11.
 
 mod input;
 
@@ -240,6 +240,8 @@ fn order_of_tests() {
     show(2, 2, &[0, 2, 1, 3], 120, 0, 1, 2, 483);
     show(2, 2, &[0, 2, 1, 3], 120, 1000001, 1, 2, 483);
     show(2, 2, &[0, 2, 1, 3], 120, 1000000, 1, 0, 483);
+    show(2, 2, &[0, 2, 1, 3], 120, 1000000, 2, 2, 483);
+    show(2, 2, &[0, 2, 1, 3], 120, 1000000, 63, 35, 483);
     show(2, 2, &[0, 2, 1, 3], 120, 1000000, 1, 1, 483);
     show(2, 2, &[0, 2, 1, 3], 120, 1000000, 1, 1, 484);
 }

@@ -11,6 +11,7 @@ use lib.ListN.{length, getD, take, drop, replicate}
 use lib.Seq.{take-at}
 use Rattle.board.specs.Tests.{FirstToHold, NoneHolds}
 use Rattle.board.specs.Lists.{Solves}
+use Rattle.planner.specs.Limits.{CommonDivisor}
 use Rattle.records.specs.declared.PlanRefusal.{PlanRefusal}
 use Rattle.records.specs.declared.Written.{Written}
 use Rattle.records.specs.declared.Written.the-variants.{Record, Refused}
@@ -76,6 +77,10 @@ module _ (g : Given) (found : List ℕ) where
         let same : pos (fieldsOf g .ceiling) ≡ pos ceiling = fitting .ceiling-is ∙ is in
         let whole : fieldsOf g .ceiling ≡ ceiling = cc in
         omega (arith, fitting .within)
+
+    -- with a weight in lowest terms
+    pub written-lowest : CommonDivisor (g .p) (g .q) → ⊥
+    written-lowest = fitting .lowest
 
     -- a record is at most 149 bytes
     pub record-at-most-149 : k ≤ 149

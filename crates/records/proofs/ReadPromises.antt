@@ -12,7 +12,12 @@ use lib.ListN.{length, take, drop}
 use lib.Seq.{take-at, drop-at}
 use borrow.Author.Tests.{le-ltb}
 use Rattle.board.specs.Tests.{NoneHolds}
-use Rattle.planner.specs.Limits.{ceilingOf}
+use Rattle.board.specs.Faults.{faultTests}
+use Rattle.board.proofs.Laws.{none-split}
+use Rattle.planner.specs.Limits.{ceilingOf, CommonDivisor, limitTests}
+use Rattle.planner.proofs.theory.Passing.{limits-kept}
+use Rattle.planner.proofs.theory.Lowest.{kept-lowest}
+use Rattle.records.specs.declared.PlanRefusal.the-variants.{Board, Beyond}
 use Rattle.records.specs.declared.Numbers.{Numbers}
 use Rattle.records.specs.declared.ReadRefusal.{ReadRefusal}
 use Rattle.records.specs.declared.ReadAnswer.{ReadAnswer}
@@ -71,6 +76,13 @@ written-reads g found k e room enough =
 
 -- ---- what the reader accepts, the writer would have written
 
+passed-lowest : (g : Given) → NoneHolds (planTests g false) → CommonDivisor (g .p) (g .q) → ⊥
+unfolding planTests
+passed-lowest g passed =
+    let first = none-split Board (faultTests (g .width) (g .height) (g .board)) passed in
+    let second = none-split Beyond (limitTests (g .ceiling) (g .visits) (g .p) (g .q)) (first .1) in
+    kept-lowest (limits-kept (g .ceiling) (g .visits) (g .p) (g .q) (second .0))
+
 module _ (bytes found : List ℕ) (each : Bytes bytes) (n : Numbers) (e : readBack bytes found .answer ≡ FieldsRead n) where
   -- the plan as it was read: its numbers from the answer, its cells and moves from the output
   abbrev pub plan : Given
@@ -113,6 +125,10 @@ module _ (bytes found : List ℕ) (each : Bytes bytes) (n : Numbers) (e : readBa
         record-leaves (recordOf (fieldsOf plan)) room (writeTests plan room) (length bytes) answer
             ∙ ap (λ (l : List ℕ). l ++ drop (length bytes) room) (sym read-record),
       )
+
+  -- its weight is in lowest terms: a record that was written with another is refused
+  pub read-lowest : CommonDivisor (n .p) (n .q) → ⊥
+  read-lowest = passed-lowest (givenOf n (taken .cells) (taken .moves)) (taken .passed)
 
   -- there was room, and the rest of the output stays
   pub read-receives : readBack bytes found .out

@@ -1,5 +1,5 @@
 -- Writing a record: what a caller gives, the refusals in their order, the answer and the output afterwards. Tests 1 to 4 are the board's,
--- 5 to 7 the planner's (visits tested as a budget), 13 and 14 as the player finds them. Assumes nothing.
+-- 5 to 7 and 15 the planner's (visits tested as a budget), 13 and 14 as the player finds them. Assumes nothing.
 use Prim.Native.Nat.{ℕ, _≤_}
 use mathlib.Core.Path.{_≡_}
 use mathlib.Core.Bool.{Bool, not}
@@ -71,7 +71,7 @@ listTests f short =
     ∷ test short ShortOutput
     ∷ []
 
--- 1 to 4, 5 to 7, and then these. Whether the output is too short is the caller's to say
+-- 1 to 4, 5 to 7, 15, and then these. Whether the output is too short is the caller's to say
 unfoldable pub planTests : Given → Bool → List (Test PlanRefusal)
 planTests g short =
     under Board (faultTests (g .width) (g .height) (g .board))
@@ -114,7 +114,7 @@ pub record Settles (left : Left) (answer : Written) (out : List ℕ) : Type 0 wh
   pub answers : answer ≡ left .answer
   pub leaves : out ≡ left .out
 
--- what tests 1 to 7 leave to those that follow: a board of the shape, and a ceiling within its limit
+-- what tests 1 to 7 and 15 leave to those that follow: a board of the shape, and a ceiling within its limit
 pub record Passed (f : Fields) : Type 0 where
   pub shape : GoodShape (shapeOf f)
   pub board : IsBoard (shapeOf f) (f .cells)

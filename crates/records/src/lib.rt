@@ -22,7 +22,7 @@ use planner::Limit;
 pub enum PlanRefusal {
     // 1 to 4: a fault of the width, the height or the board
     Board(Fault),
-    // 5 to 7: the ceiling, the visits (tested as a budget) or the weight
+    // 5 to 7 and 15: the ceiling, the visits (tested as a budget) or the weight
     Beyond(Limit),
     // 21: more moves than the ceiling
     TooLong,

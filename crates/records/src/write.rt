@@ -75,7 +75,7 @@ fn write_board(
     }
 }
 
-// After tests 5 to 7: 21, then what the player says of the list, and 22.
+// After tests 5 to 7 and 15: 21, then what the player says of the list, and 22.
 fn write_within(
     width: u32,
     height: u32,

@@ -28,7 +28,7 @@ module _ (visits : ℕ) (few : visits ≤ 1000000) where
       go zero e = omega (arith, plan-length visits moves, letters-length moves, digits)
       go (suc n) e = omega (arith, plan-length visits moves, letters-some moves (λ z. omega arith), digits)
 
-  refused-short : (number cell : ℕ) → number ≤ 14 → cell ≤ 32 → length (refusedLine number cell visits) ≤ 22
+  refused-short : (number cell : ℕ) → number ≤ 15 → cell ≤ 32 → length (refusedLine number cell visits) ≤ 22
   refused-short number cell h k =
       omega (
         arith,
@@ -44,7 +44,7 @@ answer-short (Planned pl) moves small =
     plan-short (pl .visits) (small .visits-most) (take (pl .length) moves)
     (omega (arith, length-take (pl .length) moves, small .length-most))
 answer-short (Refused r) moves small =
-    let numbered : refusalNumber r ≤ 14 = omega (arith, small .number-most) in
+    let numbered : refusalNumber r ≤ 15 = omega (arith, small .number-most) in
     let placed : refusalCell r ≤ 32 = omega (arith, small .cell-most) in
     omega (arith, refused-short (refusalVisits r) (small .visits-most) (refusalNumber r) (refusalCell r) numbered placed)
 

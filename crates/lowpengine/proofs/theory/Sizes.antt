@@ -14,7 +14,7 @@ use Rattle.player.specs.declared.Played.{Played}
 use Rattle.player.specs.declared.Played.the-variants.{End, Refused}
 use Rattle.player.specs.Answers.{refusalNumber, answerNumber}
 use Rattle.planner.specs.declared.Limit.{Limit}
-use Rattle.planner.specs.declared.Limit.the-variants.{BadCeiling, BadBudget, BadWeight}
+use Rattle.planner.specs.declared.Limit.the-variants.{BadCeiling, BadBudget, BadWeight, NotLowest}
 use Rattle.planner.specs.Limits.{limitNumber}
 use Rattle.records.specs.declared.PlanRefusal.{PlanRefusal}
 use Rattle.records.specs.declared.PlanRefusal.the-variants.{Beyond, TooLong, NotSolved}
@@ -64,11 +64,13 @@ limit-some : (l : Limit) → 1 ≤ limitNumber l
 limit-some BadCeiling = omega arith
 limit-some BadBudget = omega arith
 limit-some BadWeight = omega arith
+limit-some NotLowest = omega arith
 
-limit-number : (l : Limit) → limitNumber l ≤ 7
+limit-number : (l : Limit) → limitNumber l ≤ 15
 limit-number BadCeiling = omega arith
 limit-number BadBudget = omega arith
 limit-number BadWeight = omega arith
+limit-number NotLowest = omega arith
 
 unwritten-number : (why : PlanRefusal) → unwrittenNumber why ≤ 22
 unwritten-number (BadBoard fault) = omega (arith, fault-number fault)

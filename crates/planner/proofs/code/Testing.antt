@@ -1,4 +1,5 @@
--- The tests as the code takes them one after the other: tests 5 to 7 as `measured` has them, then what each way out of the call settles.
+-- The tests as the code takes them one after the other: tests 5 to 7 and 15 as `measured` has them, then what each way out of the call
+-- settles.
 -- Each lemma takes the results of the tests that were passed, as the code has them. In the order of the tests.
 -- Assumes nothing.
 use Prim.Native.Nat.{ℕ, _≤_}
@@ -23,7 +24,7 @@ use Rattle.board.specs.Parity.{isOdd}
 use Rattle.board.proofs.Laws.{sound-means, faulty-means, none-faulty, faultless-sound, front-given, behind-given, none-both}
 use Rattle.search.specs.Run.{SmallJob, Room}
 use Rattle.planner.specs.declared.Limit.{Limit}
-use Rattle.planner.specs.declared.Limit.the-variants.{BadCeiling, BadBudget, BadWeight}
+use Rattle.planner.specs.declared.Limit.the-variants.{BadCeiling, BadBudget, BadWeight, NotLowest}
 use Rattle.planner.specs.declared.Terms.{Terms}
 use Rattle.planner.specs.declared.Measured.{Measured}
 use Rattle.planner.specs.declared.Measured.the-variants.{Within, Outside}
@@ -31,7 +32,7 @@ use Rattle.planner.specs.declared.Refusal.{Refusal}
 use Rattle.planner.specs.declared.Refusal.the-variants.{Board, Beyond, ShortBuffer, OddBoard}
 use Rattle.planner.specs.declared.Answer.{Answer}
 use Rattle.planner.specs.declared.Answer.the-variants.{Refused}
-use Rattle.planner.specs.Limits.{badCeiling, ceilingOf, badBudget, badWeight, limitTests, saidOf, measured}
+use Rattle.planner.specs.Limits.{badCeiling, ceilingOf, badBudget, badWeight, sharesDivisor, limitTests, saidOf, measured}
 use Rattle.planner.specs.Answer.{Call, shortBuffer, lastTests, tests, answered, called, within, Settles}
 use Rattle.planner.proofs.theory.Passing.{ceiling-passes, ceiling-named, weight-passes, buffers-pass, Kept, limits-kept}
 use Rattle.planner.proofs.theory.Passing.{outside-means, within-means}
@@ -49,7 +50,7 @@ pub measured-back : (z : ℤ) (budget p q : ℕ) {r : Measured} → SFits w32 z 
     → r ≡ measured z budget p q
 measured-back z budget p q fits e = e ∙ ap (λ (y : ℤ). measured y budget p q) (toZ-ofZ w32 z fits)
 
--- ---- tests 5 to 7
+-- ---- tests 5 to 7 and 15
 
 module _ (z : ℤ) (budget p q : ℕ) where
   pub outside-5 : badCeiling z ≡ true → Outside BadCeiling ≡ measured z budget p q
@@ -64,11 +65,16 @@ module _ (z : ℤ) (budget p q : ℕ) where
   unfolding measured limitTests saidOf firstRefusal
   outside-7 five six seven = rw (five, six, seven)
 
-  pub within-all : (k : ℕ) → k ≡ ceilingOf z → badCeiling z ≡ false → badBudget budget ≡ false → badWeight p q ≡ false
-      → Within (record { ceiling = k; weight = record { p = p; q = q } }) ≡ measured z budget p q
+  pub outside-15 : badCeiling z ≡ false → badBudget budget ≡ false → badWeight p q ≡ false → sharesDivisor p q ≡ true
+      → Outside NotLowest ≡ measured z budget p q
   unfolding measured limitTests saidOf firstRefusal
-  within-all k is five six seven =
-      rw (five, six, seven) (ap (λ (n : ℕ). Within (record { ceiling = n; weight = record { p = p; q = q } })) is)
+  outside-15 five six seven fifteen = rw (five, six, seven, fifteen)
+
+  pub within-all : (k : ℕ) → k ≡ ceilingOf z → badCeiling z ≡ false → badBudget budget ≡ false → badWeight p q ≡ false
+      → sharesDivisor p q ≡ false → Within (record { ceiling = k; weight = record { p = p; q = q } }) ≡ measured z budget p q
+  unfolding measured limitTests saidOf firstRefusal
+  within-all k is five six seven fifteen =
+      rw (five, six, seven, fifteen) (ap (λ (n : ℕ). Within (record { ceiling = n; weight = record { p = p; q = q } })) is)
 
 -- the terms that are named keep the limits
 pub terms-kept : (z : ℤ) (budget p q : ℕ) (t : Terms) → measured z budget p q ≡ Within t
@@ -108,7 +114,7 @@ of-sound w h b z y budget p q moves table s r moves′ table′ e same settled =
     (subst (λ (s′ : Shape). Settles (answered (called (s′ .width) (s′ .height) b y budget p q moves table)) r moves′ table′)
     (sound-means w h b s e .0) settled)
 
--- ---- a sound board: tests 5 to 7
+-- ---- a sound board: tests 5 to 7 and 15
 
 module _ (s : Shape) (b : List ℕ) (sound : GoodShape s × IsBoard s b) where
   faultless : NoneHolds (faultTests (s .width) (s .height) b)

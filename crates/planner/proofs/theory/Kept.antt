@@ -36,10 +36,10 @@ use Rattle.planner.specs.declared.Answer.{Answer}
 use Rattle.planner.specs.declared.Answer.the-variants.{Planned, Refused}
 use Rattle.planner.specs.Limits.{badCeiling, ceilingOf, limitTests, limitNumber}
 use Rattle.planner.specs.Answer.{Call, Left, shapeOf, weightOf, cleared, lastTests, tests, searched, untouched, concluded, answered}
-use Rattle.planner.specs.Answer.{called, refusalNumber, number, visits}
+use Rattle.planner.specs.Answer.{called, refusalNumber, TestNumber, LateNumber, SearchNumber, number, visits}
 use Rattle.planner.proofs.theory.Passing.{GoodWeight, weight-passes, ceiling-passes, budget-passes, Kept, limits-kept}
 use Rattle.planner.proofs.theory.Ways.{Clear, clear, Refusing, by-board, by-limit, by-last, refusing}
-use Rattle.planner.proofs.theory.Ways.{fault-number, limit-number, early-number}
+use Rattle.planner.proofs.theory.Ways.{fault-number, limit-number, early-number, apart, refusal-positive}
 use Rattle.planner.proofs.theory.Ways.{refused-by, ran-to, Way, refused, ran, way, PlanFrom, TestRefused, NoPlanFrom, SpentFrom}
 use Rattle.planner.proofs.theory.Ways.{From, made-from}
 
@@ -141,62 +141,61 @@ ceiling-below-zero c n below = go (way c)
     go : Way c → (1 ≤ number (answered c .answer)) × (number (answered c .answer) ≤ 5)
     go (refused {why} first w) =
         let is : number (answered c .answer) ≡ refusalNumber why = ap (λ (l : Left). number (l .answer)) w in
-        (omega (arith, early-number c (refusing c first)), omega (arith, low (refusing c first)))
+        (omega (arith, refusal-positive why), omega (arith, low (refusing c first)))
     go (ran passed o run w) = absurd (not-taken (clear c passed .limits .ceiling-ok))
 
 -- ---- B1
 
 -- each refusal by a test is given exactly when its test is the first that holds
-pub given-exactly : (c : Call) (r : Refusal) → refusalNumber r ≤ 9 → (answered c .answer ≡ Refused r) ↔ FirstToHold (tests c) r
-given-exactly c r small = (λ e. first r small (made-from c e), λ first. ap (λ (l : Left). l .answer) (refused-by c first))
+pub given-exactly : (c : Call) (r : Refusal) → TestNumber (refusalNumber r) → (answered c .answer ≡ Refused r) ↔ FirstToHold (tests c) r
+given-exactly c r early = (λ e. first r early (made-from c e), λ first. ap (λ (l : Left). l .answer) (refused-by c first))
   where
-    first : (r′ : Refusal) → refusalNumber r′ ≤ 9 → From c (Refused r′) → FirstToHold (tests c) r′
+    first : (r′ : Refusal) → TestNumber (refusalNumber r′) → From c (Refused r′) → FirstToHold (tests c) r′
     first (Board f) h it = it .first
     first (Beyond l) h it = it .first
     first ShortBuffer h it = it .first
     first OddBoard h it = it .first
-    first (NoPlan v) h it = absurd (omega arith)
-    first (OutOfVisits v) h it = absurd (omega arith)
+    first (NoPlan v) h it = absurd (apart h (inr (omega arith)))
+    first (OutOfVisits v) h it = absurd (apart h (inr (omega arith)))
 
 module _ (c : Call) where
   -- which number a search gives
-  ended-number : (o : Outcome) → answered c ≡ concluded c o → (number (answered c .answer) ≡ 0) ⊎ (10 ≤ number (answered c .answer))
+  ended-number : (o : Outcome) → answered c ≡ concluded c o → SearchNumber (number (answered c .answer))
   unfolding concluded
   ended-number (found ms left) w = inl (ap (λ (l : Left). number (l .answer)) w)
   ended-number (value v left) w = inr (omega (arith, ap (λ (l : Left). number (l .answer)) w))
   ended-number spent w = inr (omega (arith, ap (λ (l : Left). number (l .answer)) w))
 
   -- where no test holds the answer is a plan, 10 or 11
-  pub else-searched : NoneHolds (tests c) → (number (answered c .answer) ≡ 0) ⊎ (10 ≤ number (answered c .answer))
+  pub else-searched : NoneHolds (tests c) → SearchNumber (number (answered c .answer))
   else-searched passed = ended-number (searched c) (ran-to c passed refl)
 
-  -- a test gives 1 to 9
-  test-number : {r : Refusal} → FirstToHold (tests c) r → answered c ≡ untouched c r
-      → (1 ≤ number (answered c .answer)) × (number (answered c .answer) ≤ 9)
-  test-number {r} first w =
-      let is : number (answered c .answer) ≡ refusalNumber r = ap (λ (l : Left). number (l .answer)) w in
-      let within = early-number c (refusing c first) in
-      (omega arith, omega arith)
+  -- a test gives 1 to 9 or 15
+  test-number : {r : Refusal} → FirstToHold (tests c) r → answered c ≡ untouched c r → TestNumber (number (answered c .answer))
+  test-number first w =
+      subst TestNumber (sym (ap (λ (l : Left). number (l .answer)) w)) (early-number c (refusing c first))
 
-  not-between : (number (answered c .answer) ≡ 0) ⊎ (10 ≤ number (answered c .answer)) → 1 ≤ number (answered c .answer)
-      → number (answered c .answer) ≤ 9 → ⊥
-  not-between (inl e) low high = omega arith
-  not-between (inr e) low high = omega arith
+  -- every answer has one of these numbers
+  pub each-number : TestNumber (number (answered c .answer)) ⊎ SearchNumber (number (answered c .answer))
+  each-number = go (way c)
+    where
+      go : Way c → TestNumber (number (answered c .answer)) ⊎ SearchNumber (number (answered c .answer))
+      go (refused first w) = inl (test-number first w)
+      go (ran passed o run w) = inr (ended-number o w)
 
-  pub untouched-is : 1 ≤ number (answered c .answer) → number (answered c .answer) ≤ 9
-      → (answered c .moves ≡ c .moves) × (answered c .table ≡ c .table)
-  untouched-is low high = go (way c)
+  pub untouched-is : TestNumber (number (answered c .answer)) → (answered c .moves ≡ c .moves) × (answered c .table ≡ c .table)
+  untouched-is early = go (way c)
     where
       go : Way c → (answered c .moves ≡ c .moves) × (answered c .table ≡ c .table)
       go (refused first w) = (ap (λ (l : Left). l .moves) w, ap (λ (l : Left). l .table) w)
-      go (ran passed o run w) = absurd (not-between (ended-number o w) low high)
+      go (ran passed o run w) = absurd (apart early (ended-number o w))
 
-  pub late-is : 10 ≤ number (answered c .answer) → (answered c .moves ≡ c .moves) × (answered c .table ≡ cleared c)
+  pub late-is : LateNumber (number (answered c .answer)) → (answered c .moves ≡ c .moves) × (answered c .table ≡ cleared c)
   unfolding concluded
   late-is late = go (way c)
     where
       go : Way c → (answered c .moves ≡ c .moves) × (answered c .table ≡ cleared c)
-      go (refused first w) = absurd (omega (arith, test-number first w))
+      go (refused first w) = absurd (apart (test-number first w) (inr late))
       go (ran passed (found ms left) run w) = absurd (omega (arith, ap (λ (l : Left). number (l .answer)) w))
       go (ran passed (value v left) run w) = (ap (λ (l : Left). l .moves) w, ap (λ (l : Left). l .table) w)
       go (ran passed spent run w) = (ap (λ (l : Left). l .moves) w, ap (λ (l : Left). l .table) w)

@@ -4,6 +4,7 @@ use Prim.Native.Nat.{ℕ, _≤_}
 use mathlib.Core.Path.{_≡_, refl, sym, ap, _∙_}
 use mathlib.Core.Bool.{Bool, true, false}
 use mathlib.Core.List.{List, _++_}
+use mathlib.Core.Logic.{inr}
 use mathlib.Core.Option.{Option, none, some}
 use native.Mathlib.Omega.{arith}
 use lib.ListN.{length, take, drop}
@@ -19,9 +20,9 @@ use Rattle.planner.specs.declared.Answer.{Answer}
 use Rattle.planner.specs.declared.Answer.the-variants.{Planned, Refused}
 use Rattle.planner.specs.Limits.{badCeiling, ceilingOf, limitTests}
 use Rattle.planner.specs.Answer.{Call, Left, shortBuffer, lastTests, tests, searched, cleared, concluded, afterTests, answered}
-use Rattle.planner.specs.Answer.{called, planLength, refusalNumber, searchRan}
+use Rattle.planner.specs.Answer.{called, planLength, refusalNumber, TestNumber, searchRan}
 use Rattle.planner.proofs.theory.Passing.{limits-kept, buffers-pass}
-use Rattle.planner.proofs.theory.Ways.{clear, refusing, early-number, Way, refused, ran, way}
+use Rattle.planner.proofs.theory.Ways.{clear, refusing, early-number, apart, Way, refused, ran, way}
 
 -- the call with other buffers
 abbrev pub lending : Call → List ℕ → List ℕ → Call
@@ -86,13 +87,13 @@ pub data TableLeft (c : Call) : Type 0 where
       → TableLeft c
 
 -- a refusal that a test gives is not the search's
-not-searched : (r : Refusal) → refusalNumber r ≤ 9 → searchRan (Refused r) ≡ false
+not-searched : (r : Refusal) → TestNumber (refusalNumber r) → searchRan (Refused r) ≡ false
 not-searched (Board f) h = refl
 not-searched (Beyond l) h = refl
 not-searched ShortBuffer h = refl
 not-searched OddBoard h = refl
-not-searched (NoPlan v) h = absurd (omega arith)
-not-searched (OutOfVisits v) h = absurd (omega arith)
+not-searched (NoPlan v) h = absurd (apart h (inr (omega arith)))
+not-searched (OutOfVisits v) h = absurd (apart h (inr (omega arith)))
 
 pub table-left : (c : Call) → TableLeft c
 unfolding concluded
@@ -106,7 +107,7 @@ table-left c = go (way c)
 
     go : Way c → TableLeft c
     go (refused {why} first w) =
-        as-found (ran-is w ∙ not-searched why (early-number c (refusing c first) .1)) (ap (λ (l : Left). l .table) w)
+        as-found (ran-is w ∙ not-searched why (early-number c (refusing c first))) (ap (λ (l : Left). l .table) w)
     go (ran passed (found ms left) run w) = zeroed (ran-is w) (room passed) (ap (λ (l : Left). l .table) w)
     go (ran passed (value v left) run w) = zeroed (ran-is w) (room passed) (ap (λ (l : Left). l .table) w)
     go (ran passed spent run w) = zeroed (ran-is w) (room passed) (ap (λ (l : Left). l .table) w)

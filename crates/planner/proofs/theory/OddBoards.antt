@@ -1,4 +1,4 @@
--- 9 is given exactly where tests 1 to 8 pass and the board is odd. Assumes nothing.
+-- 9 is given exactly where tests 1 to 8 and 15 pass and the board is odd. Assumes nothing.
 use Prim.Native.Nat.{ℕ}
 use mathlib.Core.Path.{_≡_, refl, ap}
 use mathlib.Core.Bool.{true, false}
@@ -16,7 +16,7 @@ use Rattle.planner.specs.Answer.{Call, Left, shapeOf, shortBuffer, lastT
 use Rattle.planner.proofs.theory.Ways.{Refusing, by-board, by-limit, by-last, refusing, refused-by, TestRefused, made-from}
 use Rattle.planner.proofs.theory.Numbers.{odd-by-number}
 
--- tests 1 to 8 pass, and the board is odd
+-- tests 1 to 8 and 15 pass, and the board is odd
 pub record OddAlone (c : Call) : Type 0 where
   pub board-ok : NoneHolds (faultTests (c .width) (c .height) (c .board))
   pub limits-ok : NoneHolds (limitTests (c .ceiling) (c .budget) (c .p) (c .q))

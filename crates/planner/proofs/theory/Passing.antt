@@ -1,4 +1,4 @@
--- What each of tests 5 to 8 tells where it fails, and what tests 5 to 7 say where none holds. Assumes nothing.
+-- What each of tests 5 to 8 tells where it fails, and what tests 5 to 7 and 15 say where none holds. Assumes nothing.
 use Prim.Native.Nat.{ℕ, _≤_}
 use mathlib.Core.Path.{_≡_, refl}
 use mathlib.Core.Bool.{Bool, true, false, _||_, true≢false}
@@ -13,7 +13,7 @@ use Rattle.search.specs.Run.{rowsFor}
 use Rattle.planner.specs.declared.Limit.{Limit}
 use Rattle.planner.specs.declared.Terms.{Terms}
 use Rattle.planner.specs.declared.Measured.the-variants.{Within, Outside}
-use Rattle.planner.specs.Limits.{badCeiling, ceilingOf, badBudget, badWeight, limitTests, saidOf, measured}
+use Rattle.planner.specs.Limits.{badCeiling, ceilingOf, badBudget, badWeight, sharesDivisor, limitTests, saidOf, measured}
 use Rattle.planner.specs.Answer.{shortBuffer}
 
 -- ---- each test by itself
@@ -54,18 +54,19 @@ buffers-pass ceiling moves table e =
     let both = neither (ltb moves ceiling) (ltb table (rowsFor ceiling)) e in
     (ltb-false moves ceiling (both .0), ltb-false table (rowsFor ceiling) (both .1))
 
--- ---- tests 5 to 7, one after the other
+-- ---- tests 5 to 7 and 15, one after the other
 
 -- the limits are kept
 pub record Kept (ceiling : ℤ) (budget p q : ℕ) : Type 0 where
   pub ceiling-ok : badCeiling ceiling ≡ false
   pub budget-ok : badBudget budget ≡ false
   pub weight-ok : badWeight p q ≡ false
+  pub lowest-ok : sharesDivisor p q ≡ false
 
 pub limits-kept : (ceiling : ℤ) (budget p q : ℕ) → NoneHolds (limitTests ceiling budget p q) → Kept ceiling budget p q
 unfolding limitTests
-limits-kept ceiling budget p q (past five (past six (past seven end))) =
-    record { ceiling-ok = five; budget-ok = six; weight-ok = seven }
+limits-kept ceiling budget p q (past five (past six (past seven (past fifteen end)))) =
+    record { ceiling-ok = five; budget-ok = six; weight-ok = seven; lowest-ok = fifteen }
 
 said-outside : (l : Terms) (o : Option Limit) (limit : Limit) → saidOf l o ≡ Outside limit → o ≡ some limit
 unfolding saidOf

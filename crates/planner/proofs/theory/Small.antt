@@ -17,7 +17,7 @@ use Rattle.planner.proofs.theory.Ways.{last-number, PlanFrom, TestRefus
 use Rattle.planner.proofs.theory.Kept.{PlanMade, plan-made}
 
 pub record Small (a : Answer) : Type 0 where
-  pub number-most : number a ≤ 11
+  pub number-most : number a ≤ 15
   pub cell-most : cell a ≤ 15
   pub length-most : planLength a ≤ 120
   pub visits-most : visits a ≤ 1000000

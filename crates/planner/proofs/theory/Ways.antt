@@ -5,6 +5,7 @@ use Prim.Native.Nat.{ℕ, _-_, _≤_}
 use mathlib.Core.Path.{_≡_, refl, sym, ap, subst, _∙_}
 use mathlib.Core.Bool.{false}
 use mathlib.Core.List.{List, _++_}
+use mathlib.Core.Logic.{_≢_, inl, inr}
 use mathlib.Core.Option.{Option, none, some}
 use native.Mathlib.Omega.{arith}
 use lib.ListN.{length}
@@ -19,14 +20,14 @@ use Rattle.board.proofs.Laws.{board-of, first-means, first-given, none-means, n
 use Rattle.search.specs.Search.{Outcome, found, value, spent}
 use Rattle.planner.specs.declared.Plan.{Plan}
 use Rattle.planner.specs.declared.Limit.{Limit}
-use Rattle.planner.specs.declared.Limit.the-variants.{BadCeiling, BadBudget, BadWeight}
+use Rattle.planner.specs.declared.Limit.the-variants.{BadCeiling, BadBudget, BadWeight, NotLowest}
 use Rattle.planner.specs.declared.Refusal.{Refusal}
 use Rattle.planner.specs.declared.Refusal.the-variants.{Board, Beyond, ShortBuffer, OddBoard, NoPlan, OutOfVisits}
 use Rattle.planner.specs.declared.Answer.{Answer}
 use Rattle.planner.specs.declared.Answer.the-variants.{Planned, Refused}
 use Rattle.planner.specs.Limits.{ceilingOf, limitTests, limitNumber}
 use Rattle.planner.specs.Answer.{Call, Left, shapeOf, shortBuffer, lastTests, tests, searched, untouched, concluded, afterTests}
-use Rattle.planner.specs.Answer.{answered, refusalNumber}
+use Rattle.planner.specs.Answer.{answered, refusalNumber, TestNumber, SearchNumber}
 use Rattle.planner.proofs.theory.Passing.{Kept, limits-kept}
 
 -- ---- the tests
@@ -79,21 +80,39 @@ fault-number BadLength = omega arith
 fault-number (TooLarge i) = omega arith
 fault-number (Repeated i) = omega arith
 
-pub limit-number : (l : Limit) → (5 ≤ limitNumber l) × (limitNumber l ≤ 7)
-limit-number BadCeiling = omega arith
-limit-number BadBudget = omega arith
-limit-number BadWeight = omega arith
+pub limit-number : (l : Limit)
+    → (5 ≤ limitNumber l) × (limitNumber l ≤ 15) × (limitNumber l ≢ 9) × (limitNumber l ≢ 10) × (limitNumber l ≢ 11)
+limit-number BadCeiling = (omega arith, omega arith, λ e. omega arith, λ e. omega arith, λ e. omega arith)
+limit-number BadBudget = (omega arith, omega arith, λ e. omega arith, λ e. omega arith, λ e. omega arith)
+limit-number BadWeight = (omega arith, omega arith, λ e. omega arith, λ e. omega arith, λ e. omega arith)
+limit-number NotLowest = (omega arith, omega arith, λ e. omega arith, λ e. omega arith, λ e. omega arith)
+
+pub fault-early : (f : Fault) → TestNumber (faultNumber f)
+fault-early f = inl (omega (arith, fault-number f))
+
+pub limit-early : (l : Limit) → TestNumber (limitNumber l)
+limit-early BadCeiling = inl (omega arith)
+limit-early BadBudget = inl (omega arith)
+limit-early BadWeight = inl (omega arith)
+limit-early NotLowest = inr refl
 
 pub last-number : (c : Call) {r : Refusal} → FirstToHold (lastTests c) r → (8 ≤ refusalNumber r) × (refusalNumber r ≤ 9)
 unfolding lastTests
 last-number c (here eight) = omega arith
 last-number c (later eight (here nine)) = omega arith
 
--- what a test gives is one of 1 to 9
-pub early-number : (c : Call) {r : Refusal} → Refusing c r → (1 ≤ refusalNumber r) × (refusalNumber r ≤ 9)
-early-number c (by-board {f} first) = omega (arith, fault-number f)
-early-number c (by-limit {l} passed first) = omega (arith, limit-number l)
-early-number c (by-last passed kept first) = omega (arith, last-number c first)
+-- what a test gives is one of 1 to 9, or 15
+pub early-number : (c : Call) {r : Refusal} → Refusing c r → TestNumber (refusalNumber r)
+early-number c (by-board {f} first) = fault-early f
+early-number c (by-limit {l} passed first) = limit-early l
+early-number c (by-last passed kept first) = inl (omega (arith, last-number c first))
+
+-- no number is both a test's and the search's
+pub apart : {k : ℕ} → TestNumber k → SearchNumber k → ⊥
+apart (inl early) (inl done) = omega arith
+apart (inl early) (inr late) = omega arith
+apart (inr fifteen) (inl done) = omega arith
+apart (inr fifteen) (inr late) = omega arith
 
 -- only a plan has number 0
 pub refusal-positive : (r : Refusal) → 1 ≤ refusalNumber r
@@ -168,18 +187,18 @@ From c (Refused OddBoard) = TestRefused c OddBoard
 From c (Refused (NoPlan v)) = NoPlanFrom c v
 From c (Refused (OutOfVisits v)) = SpentFrom c v
 
-test-from : (c : Call) (r : Refusal) → refusalNumber r ≤ 9 → TestRefused c r → From c (Refused r)
-test-from c (Board f) small it = it
-test-from c (Beyond l) small it = it
-test-from c ShortBuffer small it = it
-test-from c OddBoard small it = it
-test-from c (NoPlan v) small it = absurd (omega arith)
-test-from c (OutOfVisits v) small it = absurd (omega arith)
+test-from : (c : Call) (r : Refusal) → TestNumber (refusalNumber r) → TestRefused c r → From c (Refused r)
+test-from c (Board f) early it = it
+test-from c (Beyond l) early it = it
+test-from c ShortBuffer early it = it
+test-from c OddBoard early it = it
+test-from c (NoPlan v) early it = absurd (apart early (inr (omega arith)))
+test-from c (OutOfVisits v) early it = absurd (apart early (inr (omega arith)))
 
 answer-from : (c : Call) → Way c → From c (answered c .answer)
 unfolding concluded
 answer-from c (refused {why} first w) =
-    rw (ap (λ (l : Left). l .answer) w) (test-from c why (early-number c (refusing c first) .1) (record { first = first; all = w }))
+    rw (ap (λ (l : Left). l .answer) w) (test-from c why (early-number c (refusing c first)) (record { first = first; all = w }))
 answer-from c (ran passed (found ms left) run w) =
     rw (ap (λ (l : Left). l .answer) w) (record { passed = passed; moves = ms; left = left; run = run; all = w; is = refl })
 answer-from c (ran passed (value v left) run w) =

@@ -1,4 +1,4 @@
--- The tests as the code takes them one after the other: what each way out of the writer settles. First tests 1 to 7, then what the
+-- The tests as the code takes them one after the other: what each way out of the writer settles. First tests 1 to 7 and 15, then what the
 -- player's answer tells of the list, then tests 21 to 8. Assumes nothing.
 use Prim.Native.Nat.{ℕ, _≤_, _<_}
 use mathlib.Core.Path.{_≡_, refl, sym, ap, subst, _∙_}
@@ -53,7 +53,7 @@ pub settled-record : (bytes found : List ℕ) {ts : List (Test PlanRefusal)} →
 unfolding leaves
 settled-record bytes found passed = rw (none-given passed) (record { answers = refl; leaves = refl })
 
--- ---- tests 1 to 7
+-- ---- tests 1 to 7 and 15
 
 -- a ceiling that was handed on through its bits is the ceiling
 pub handed-on : (width height : ℕ) (b : List ℕ) (z y : ℤ) (p q visits : ℕ) (moves found : List ℕ) (answer : Written) (out : List ℕ)

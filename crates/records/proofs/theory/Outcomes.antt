@@ -14,6 +14,8 @@ use Rattle.board.specs.Tests.{Test, firstRefusal, FirstToHold, NoneHolds, end, 
 use Rattle.board.specs.Faults.{faultTests}
 use Rattle.board.proofs.Laws.{first-means, first-given, none-means, none-given, none-split, board-of, list-board, isGoal-sound}
 use Rattle.planner.specs.Limits.{ceilingOf, limitTests}
+use Rattle.planner.proofs.theory.Divisors.{Lowest}
+use Rattle.planner.proofs.theory.Lowest.{kept-lowest}
 use Rattle.planner.proofs.theory.Passing.{limits-kept, ceiling-passes, ceiling-named, budget-passes, weight-passes, GoodWeight}
 use Rattle.player.specs.Play.{firstBad}
 use Rattle.player.proofs.Laws.{first-bad-within, no-bad-move}
@@ -71,6 +73,7 @@ pub record Fitting (g : Given) (found : List ℕ) : Type 0 where
   pub solves : Solves (shapeOf (fieldsOf g)) (g .board) (g .moves)
   pub within : length (g .moves) ≤ ceilingOf (g .ceiling)
   pub weight : GoodWeight (g .p) (g .q)
+  pub lowest : Lowest (g .p) (g .q)
   pub visited : 1 ≤ g .visits
   pub room : length (recordOf (fieldsOf g)) ≤ length found
 
@@ -113,6 +116,7 @@ passes g found clear =
           solves = record { plays = plays; reaches = isGoal-sound (shapeOf f) _ long (not-false _ goal-ok) };
           within = few;
           weight = weight;
+          lowest = kept-lowest limits;
           visited = visits .0;
           room = ltb-false _ _ room-ok;
         }

@@ -10,8 +10,8 @@ use Rattle.board.specs.Board.{emptyCell, isGoal}
 use Rattle.board.specs.Moves.{staysOn, leadsTo, legal, slide, after}
 use Rattle.board.specs.Tests.{firstRefusal, under}
 use Rattle.board.specs.Faults.{faultTests, firstTooLarge, firstHolding, repeats, firstRepeat}
-use Rattle.planner.specs.declared.Limit.the-variants.{BadCeiling}
-use Rattle.planner.specs.Limits.{badCeiling, ceilingOf, badBudget, badWeight, limitTests}
+use Rattle.planner.specs.declared.Limit.the-variants.{BadCeiling, NotLowest}
+use Rattle.planner.specs.Limits.{badCeiling, ceilingOf, badBudget, badWeight, dividesBoth, sharesDivisor, limitTests}
 use Rattle.player.specs.Play.{firstBad, badMove}
 use Rattle.records.specs.declared.PlanRefusal.the-variants.{Board, Beyond, TooLong, NoMove, OffGrid, NotSolved, ShortOutput}
 use Rattle.records.specs.declared.ReadRefusal.the-variants.{CutShort, BadNumber, BadSide, LongList, BytesAfter, WrongMark, Plan}
@@ -64,7 +64,9 @@ rows =
     (Refused (Plan (Board (TooLarge 1))))
     ∷ row (2 ∷ 2 ∷ 3 ∷ 2 ∷ 1 ∷ 0 ∷ 143 ∷ 255 ∷ 255 ∷ 255 ∷ 127 ∷ 1 ∷ 1 ∷ 7 ∷ 6 ∷ 0 ∷ 1 ∷ 3 ∷ 2 ∷ 0 ∷ 1 ∷ 34 ∷ 8 ∷ 87 ∷ 72 ∷ []) 10
     (Refused (Plan (Beyond BadCeiling)))
-    -- the length above the ceiling
+    -- a weight of 2 over 2, as an earlier writer took it, before the length above the ceiling; that length
+    ∷ row (2 ∷ 2 ∷ 3 ∷ 2 ∷ 1 ∷ 0 ∷ 5 ∷ 2 ∷ 2 ∷ 7 ∷ 6 ∷ 0 ∷ 1 ∷ 3 ∷ 2 ∷ 0 ∷ 1 ∷ 70 ∷ 255 ∷ 67 ∷ 116 ∷ []) 10
+    (Refused (Plan (Beyond NotLowest)))
     ∷ row (2 ∷ 2 ∷ 3 ∷ 2 ∷ 1 ∷ 0 ∷ 5 ∷ 1 ∷ 1 ∷ 7 ∷ 6 ∷ 0 ∷ 1 ∷ 3 ∷ 2 ∷ 0 ∷ 1 ∷ 5 ∷ 49 ∷ 30 ∷ 222 ∷ []) 10 (Refused (Plan TooLong))
     -- a byte that is no move; a move off the grid; not at the goal, tested before the room
     ∷ row (2 ∷ 2 ∷ 3 ∷ 2 ∷ 1 ∷ 0 ∷ 6 ∷ 1 ∷ 1 ∷ 7 ∷ 6 ∷ 0 ∷ 4 ∷ 3 ∷ 2 ∷ 0 ∷ 1 ∷ 8 ∷ 182 ∷ 252 ∷ 116 ∷ []) 10 (Refused (Plan (NoMove 1)))
@@ -78,7 +80,7 @@ pub called-back : map (λ r. readBack (r .bytes) (replicate (r .room) 9) .answer
 unfolding readBack leavesRead endTests markStands numbersIn heightOn cellsOn planOn lengthOn
     ended groupsAt numberAt sideAt lengthAt numbersAt planTests listTests firstRefusal under
     faultTests firstTooLarge firstHolding repeats firstRepeat firstOf emptyCell isGoal staysOn leadsTo legal slide after
-    limitTests badCeiling ceilingOf badBudget badWeight firstBad badMove mark markFrom markStep
+    limitTests badCeiling ceilingOf badBudget badWeight dividesBoth sharesDivisor firstBad badMove mark markFrom markStep
 called-back = refl
 
 -- the output receives the cells and then the moves, and the rest stays
@@ -87,5 +89,5 @@ pub received-back : readBack worked (replicate 12 9) .out
 unfolding readBack leavesRead endTests markStands numbersIn heightOn cellsOn planOn lengthOn
     ended groupsAt numberAt sideAt lengthAt numbersAt planTests listTests firstRefusal under
     faultTests firstTooLarge firstHolding repeats firstRepeat firstOf emptyCell isGoal staysOn leadsTo legal slide after
-    limitTests badCeiling ceilingOf badBudget badWeight firstBad badMove mark markFrom markStep
+    limitTests badCeiling ceilingOf badBudget badWeight dividesBoth sharesDivisor firstBad badMove mark markFrom markStep
 received-back = refl

@@ -12,8 +12,8 @@ use Rattle.board.specs.Board.{emptyCell, isGoal}
 use Rattle.board.specs.Moves.{staysOn, leadsTo, legal, slide, after}
 use Rattle.board.specs.Tests.{firstRefusal, under}
 use Rattle.board.specs.Faults.{faultTests, firstTooLarge, firstHolding, repeats, firstRepeat}
-use Rattle.planner.specs.declared.Limit.the-variants.{BadCeiling, BadBudget, BadWeight}
-use Rattle.planner.specs.Limits.{badCeiling, ceilingOf, badBudget, badWeight, limitTests}
+use Rattle.planner.specs.declared.Limit.the-variants.{BadCeiling, BadBudget, BadWeight, NotLowest}
+use Rattle.planner.specs.Limits.{badCeiling, ceilingOf, badBudget, badWeight, dividesBoth, sharesDivisor, limitTests}
 use Rattle.player.specs.Play.{firstBad, badMove}
 use Rattle.records.specs.declared.PlanRefusal.the-variants.{Board, Beyond, TooLong, NoMove, OffGrid, NotSolved, ShortOutput}
 use Rattle.records.specs.declared.Written.{Written}
@@ -72,7 +72,7 @@ thereAndBack (suc k) = 2 ∷ 1 ∷ thereAndBack k
 -- sixteen cells, 120 moves and visits of three groups
 abbrev pub longest : Given
 longest =
-    given 4 4 (0 ∷ 1 ∷ 2 ∷ 3 ∷ 4 ∷ 5 ∷ 6 ∷ 7 ∷ 8 ∷ 9 ∷ 10 ∷ 11 ∷ 12 ∷ 13 ∷ 14 ∷ 15 ∷ []) (pos 120) 64 64 1000000 (thereAndBack 60)
+    given 4 4 (0 ∷ 1 ∷ 2 ∷ 3 ∷ 4 ∷ 5 ∷ 6 ∷ 7 ∷ 8 ∷ 9 ∷ 10 ∷ 11 ∷ 12 ∷ 13 ∷ 14 ∷ 15 ∷ []) (pos 120) 64 63 1000000 (thereAndBack 60)
 
 abbrev rows : List Row
 rows =
@@ -88,6 +88,9 @@ rows =
     ∷ row (given 2 2 board (pos 6) 1 1 0 plan) 21 (Refused (Beyond BadBudget))
     ∷ row (given 2 2 board (pos 6) 1 1 1000001 plan) 21 (Refused (Beyond BadBudget))
     ∷ row (given 2 2 board (pos 6) 1 2 7 plan) 21 (Refused (Beyond BadWeight))
+    -- 15 is tested behind 7 and before 21
+    ∷ row (given 2 2 board (pos 6) 66 2 7 plan) 21 (Refused (Beyond BadWeight))
+    ∷ row (given 2 2 board (pos 5) 9 6 7 plan) 21 (Refused (Beyond NotLowest))
     -- a list above the ceiling is not looked into
     ∷ row (given 2 2 board (pos 5) 1 1 7 (9 ∷ 9 ∷ 9 ∷ 9 ∷ 9 ∷ 9 ∷ [])) 21 (Refused TooLong)
     ∷ row (given 2 2 board (pos 6) 1 1 7 (0 ∷ 4 ∷ 0 ∷ [])) 21 (Refused (NoMove 1))
@@ -100,6 +103,6 @@ rows =
 pub called : map (λ r. written (r .call) (replicate (r .room) 0) .answer) rows ≡ map (λ r. r .answer) rows
 unfolding written leaves writeTests planTests listTests firstRefusal under
     faultTests firstTooLarge firstHolding repeats firstRepeat firstOf emptyCell isGoal staysOn leadsTo legal slide after
-    limitTests badCeiling ceilingOf badBudget badWeight firstBad badMove
+    limitTests badCeiling ceilingOf badBudget badWeight dividesBoth sharesDivisor firstBad badMove
     sealed body spelled groups leading leadingOf mark markFrom markStep
 called = refl

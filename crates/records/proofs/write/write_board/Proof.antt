@@ -1,6 +1,6 @@
--- `write::write_board` meets its contract: tests 5 to 7 are the planner's, and what follows is `write_within`. In each answer `entry` is
--- where the call began and `limits` where `measured` had answered; the ceiling is handed on through its bits, which changes nothing.
--- Assumes nothing.
+-- `write::write_board` meets its contract: tests 5 to 7 and 15 are the planner's, and what follows is `write_within`. In each answer
+-- `entry` is where the call began and `limits` where `measured` had answered; the ceiling is handed on through its bits, which changes
+-- nothing. Assumes nothing.
 use mathlib.Core.Path.{sym, _∙_}
 use mathlib.Core.List.{[]}
 use Rattle.planner.proofs.code.Testing.{measured-back}
