@@ -81,12 +81,13 @@ static void receive(const uint8_t *record, size_t length) {
            lowpengine_is_goal(played) ? "played to the goal" : "not to the goal");
 }
 
-/* The plan as a record, in hex: what a controller would store or send. */
+/* The short call's plan as a record, in hex: what a controller would store or send. */
 static void store(const struct job *job, uint64_t answer, const uint8_t *moves) {
     uint8_t record[LOWPENGINE_RECORD_BYTES];
     size_t n = (size_t)job->width * job->height;
-    uint64_t stored = lowpengine_write_record(job->width, job->height, job->board, n, job->ceiling, 1, 1, lowpengine_visits(answer),
-                                              moves, lowpengine_length(answer), record, sizeof record);
+    uint64_t stored = lowpengine_write_record(job->width, job->height, job->board, n, job->ceiling, LOWPENGINE_SHORT_P,
+                                              LOWPENGINE_SHORT_Q, lowpengine_visits(answer), moves, lowpengine_length(answer),
+                                              record, sizeof record);
     if (lowpengine_number(stored) != LOWPENGINE_DONE) {
         printf("not stored: %s\n", reason(lowpengine_number(stored)));
         return;

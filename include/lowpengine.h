@@ -32,6 +32,9 @@ enum {
     LOWPENGINE_READ_BYTES = 136     /* bytes that reading a record gives at most: the largest board and the longest plan */
 };
 
+/* The weight of the short call, p over q; a record of its plan names it. */
+enum { LOWPENGINE_SHORT_P = 3, LOWPENGINE_SHORT_Q = 2 };
+
 /* Where the empty cell goes. */
 enum lowpengine_move { LOWPENGINE_UP = 0, LOWPENGINE_LEFT = 1, LOWPENGINE_RIGHT = 2, LOWPENGINE_DOWN = 3 };
 
@@ -94,7 +97,11 @@ uint64_t lowpengine_plan(uint32_t width, uint32_t height, const uint8_t *board, 
                          uint32_t budget, uint32_t p, uint32_t q, uint8_t *moves, size_t moves_len, uint8_t *table,
                          size_t table_len);
 
-/* lowpengine_plan with the weight 1 over 1: a plan that it answers is a shortest one. */
+/*
+ * The short call: lowpengine_plan with the weight LOWPENGINE_SHORT_P over LOWPENGINE_SHORT_Q, which is 3 over 2, for an early plan.
+ * A plan of L moves has 2 * L <= 3 * D for every list of D moves to the goal. Who needs a shortest plan asks lowpengine_plan for
+ * 1 over 1 by name.
+ */
 uint64_t lowpengine_plan_short(uint32_t width, uint32_t height, const uint8_t *board, size_t board_len, int32_t ceiling,
                                uint32_t budget, uint8_t *moves, size_t moves_len, uint8_t *table, size_t table_len);
 

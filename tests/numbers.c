@@ -224,6 +224,19 @@ static void longest(size_t room, const char *wanted, int number) {
         wrong += plan[i] != (i < LOWPENGINE_CELLS ? board[i] : moves[i - LOWPENGINE_CELLS]);
 }
 
+/* On this board 3 over 2 gives twelve moves, a shortest list has ten: the short call's weight is the one that the header names. */
+static void short_call(void) {
+    static const uint8_t board[] = {5, 2, 1, 0, 3, 4};
+    uint8_t moves[LOWPENGINE_MOVES], table[LOWPENGINE_TABLE_BYTES];
+    uint64_t answer = lowpengine_plan_short(2, 3, board, sizeof board, 20, 20, moves, sizeof moves, table, sizeof table);
+    uint64_t named = lowpengine_plan(2, 3, board, sizeof board, 20, 20, LOWPENGINE_SHORT_P, LOWPENGINE_SHORT_Q, moves, sizeof moves,
+                                     table, sizeof table);
+    uint64_t shortest = lowpengine_plan(2, 3, board, sizeof board, 20, 20, 1, 1, moves, sizeof moves, table, sizeof table);
+    expect(answer == named ? "at the weight named" : "at another weight", "at the weight named", number_of(answer), 0);
+    expect(lowpengine_length(answer) == 12 && lowpengine_length(shortest) == 10 ? "early" : "at 1 over 1", "early",
+           number_of(shortest), 0);
+}
+
 int main(void) {
     plan(2, 4, 0, 6, 7, 1, 120, "plan", 0);
     plan(5, 4, 0, 6, 7, 1, 120, "shape", 1);
@@ -243,6 +256,7 @@ int main(void) {
     expect(plan_case(answer), "unreachable", number_of(answer), 9);
     answer = lowpengine_plan(2, 2, odd, sizeof odd, 6, 9, 9, 6, moves, sizeof moves, table, sizeof table);
     expect(plan_case(answer), "not lowest", number_of(answer), 15);
+    short_call();
 
     play(2, 4, 3, LOWPENGINE_LEFT, 4, "played to the goal", 0);
     play(2, 4, 3, LOWPENGINE_DOWN, 4, "played", 0);

@@ -4,6 +4,7 @@ use crate::call::Call;
 use crate::check::Checker;
 use crate::random::Random;
 use second::board::{Board, Shape, SHAPES};
+use second::entries::SHORT;
 use second::planner::Order;
 use second::search::{self, End};
 
@@ -35,13 +36,13 @@ pub fn order(shape: Shape, board: &[u8], ceiling: i32, budget: u32, (p, q): (u32
     Order { width: shape.width as u32, height: shape.height as u32, board, ceiling, budget, p, q }
 }
 
-/// Buffers that are exact or longer, with whole numbers in the table or an odd byte behind them. At weight 1 over 1 it is the
-/// short call one time in two.
+/// Buffers that are exact or longer, with whole numbers in the table or an odd byte behind them. At the short call's weight
+/// it is the short call one time in two.
 pub fn plan_of(random: &Random, order: &Order) -> Call {
     let ceiling = order.ceiling.clamp(0, 120) as usize;
     let extra = if random.one_in(2) { 0 } else { random.below(9) };
     let (moves, table) = (ceiling + extra, 8 * (ceiling + 1) + random.below(extra + 1));
-    if (order.p, order.q) == (1, 1) && random.one_in(2) {
+    if (order.p, order.q) == SHORT && random.one_in(2) {
         Call::plan_short(random, order, moves, table)
     } else {
         Call::plan(random, order, moves, table)

@@ -5,10 +5,11 @@
 //! searched whole; of 3 by 4, 4 by 3 and 4 by 4 all boards within DEPTH moves of the goal are met, so their D is exact too.
 
 use crate::boards::{order, plan_of};
-use crate::call::Call;
+use crate::call::{Call, Entry};
 use crate::check::Checker;
 use crate::random::Random;
 use second::board::{Board, Shape};
+use second::entries::SHORT;
 use std::collections::HashMap;
 
 const CALLS: &str = "plans against breadth-first search";
@@ -114,7 +115,7 @@ impl Distances {
     fn claims(&self, checker: &mut Checker, answer: u64, call: &Call) {
         let (_, board) = second::board::read(call.width, call.height, call.part(0)).unwrap();
         let d = self.least.get(&board).copied();
-        let (p, q) = if call.p == 0 { (1, 1) } else { (call.p, call.q) };
+        let (p, q) = if call.entry == Entry::PlanShort { SHORT } else { (call.p, call.q) };
         let (number, length) = (answer & 0xff, (answer >> 16 & 0xffff) as u32);
         // near the goal every search at p = q, and every one under a low ceiling, ends within the budget
         let may_be_spent = self.depth.is_none() || p != q && call.ceiling == 120;

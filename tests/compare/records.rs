@@ -2,12 +2,13 @@
 //! outputs of every length.
 
 use crate::boards::{self, BAD_WEIGHTS, WEIGHTS};
-use crate::call::Call;
+use crate::call::{Call, Entry};
 use crate::check::Checker;
 use crate::plays::{legal_list, way_to_goal};
 use crate::random::Random;
 use crate::wild;
 use second::board::{Shape, SHAPES};
+use second::entries::SHORT;
 use second::planner::Order;
 use second::records::record;
 
@@ -47,8 +48,7 @@ fn planned(checker: &mut Checker, random: &Random, task: usize, rounds: usize) {
             continue;
         }
         let (length, visits) = ((answer >> 16 & 0xffff) as usize, (answer >> 32) as u32);
-        // the entry without a weight names none
-        let (p, q) = if call.q == 0 { (1, 1) } else { (call.p, call.q) };
+        let (p, q) = if call.entry == Entry::PlanShort { SHORT } else { (call.p, call.q) };
         let order = Order {
             width: call.width,
             height: call.height,

@@ -5,6 +5,9 @@ use crate::planner::{self, Answer, Order};
 use crate::player::{self, Played};
 use crate::records::{self, Fields, Written};
 
+/// The weight of the short call, p and q.
+pub const SHORT: (u32, u32) = (3, 2);
+
 /// The highest place that an answer can hold.
 const HIGHEST_PLACE: u64 = (1 << 56) - 1;
 
@@ -20,7 +23,7 @@ pub fn plan(order: &Order, moves: &mut [u8], table: &mut [u8]) -> u64 {
 
 /// Plans with the weight of the short call.
 pub fn plan_short(order: &Order, moves: &mut [u8], table: &mut [u8]) -> u64 {
-    plan(&Order { p: 1, q: 1, ..*order }, moves, table)
+    plan(&Order { p: SHORT.0, q: SHORT.1, ..*order }, moves, table)
 }
 
 /// Number, then the cell from bit 8, the length from bit 16 and the visits from bit 32.

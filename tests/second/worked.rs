@@ -184,6 +184,17 @@ fn bytes_of_the_table() {
     assert_eq!(entries::plan(&faulty, &mut moves, &mut table), 4 | 2 << 8);
 }
 
+/// Twelve moves at 3 over 2, two visits sooner than the ten of a shortest list.
+#[test]
+fn the_short_call() {
+    let order = Order { width: 2, height: 3, board: &[5, 2, 1, 0, 3, 4], ceiling: 20, budget: 18, p: 1, q: 1 };
+    let (mut moves, mut table) = ([9; 20], [9; 168]);
+    assert_eq!(entries::plan_short(&order, &mut moves, &mut table), 12 << 16 | 18 << 32);
+    assert_eq!(moves[..13], [0, 1, 3, 2, 0, 1, 3, 3, 2, 0, 1, 0, 9]);
+    assert_eq!(entries::plan(&order, &mut moves, &mut table), 11 | 18 << 32);
+    assert_eq!(entries::plan(&Order { budget: 20, ..order }, &mut moves, &mut table), 10 << 16 | 20 << 32);
+}
+
 #[test]
 fn the_player() {
     let mut out = [9; 5];

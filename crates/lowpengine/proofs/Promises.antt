@@ -1,5 +1,5 @@
 -- What is promised of the entries, of any inputs, as a C programmer has them: of the result r and of the lent bytes. `PlanGiven c r moves′
--- table′` is what lowpengine_plan gives for the inputs c, and with weight 1 over 1 what lowpengine_plan_short gives; `PlayGiven` is the
+-- table′` is what lowpengine_plan gives for the inputs c, and for c a `calledShort` what lowpengine_plan_short gives; `PlayGiven` is the
 -- player's and `RecordGiven` the record writer's. Of a plan's result r % 256 is the number, r / 256 % 256 the cell, r / 65536 % 65536 the
 -- length and r / 2^32 the visits.
 --     fields, settled    the result is taken apart again; any two results, lent bytes included, that a contract allows are equal
@@ -7,6 +7,7 @@
 --     A, B1, B2, B3      the customer's conditions, in their order
 --     E1                 the record of a plan: r % 256 is the number, r / 256 the record's length, or a refusal's cell or place
 --     E6                 the reachability test, `r ≡ packedReach width height b`: r % 256 is the number, r / 256 the cell
+--     E7                 the short call: what it promises of a plan's length
 -- Assumes nothing.
 use Prim.Native.Nat.{ℕ, _+_, _*_, _/_, _%_, _^_, _≤_, _<_, min}
 use mathlib.Core.Path.{_≡_, refl, sym, ap, subst, _∙_}
@@ -33,6 +34,7 @@ use Rattle.planner.specs.declared.Answer.{Answer}
 use Rattle.planner.specs.declared.Answer.the-variants.{Planned, Refused as Refusing}
 use Rattle.planner.specs.Limits.{ceilingOf, limitTests}
 use Rattle.planner.specs.Answer.{called, shortBuffer}
+use Rattle.planner.specs.Short.{calledShort}
 use Rattle.planner.specs.Answer.{Call, shapeOf, tests, answered, refusalNumber, refusalCell, TestNumber, LateNumber, SearchNumber}
 use Rattle.planner.specs.Answer.{number, cell, planLength, visits, searchRan}
 use Rattle.planner.proofs.Promises as plan
@@ -538,3 +540,19 @@ module _
       gives e =
           let it = reach-odd-exactly width height b r given .0 e in
           nine-planned .1 (record { board-ok = it .0; limits-ok = kept; buffers-ok = room; odd = it .1 })
+
+-- ---- E7: the short call
+
+-- twice the plan's length is at most three times that of any legal list to the goal
+module _ (width height : ℕ) (b : List ℕ) (ceiling : ℤ) (budget : ℕ) (moves table : List ℕ) (bytes : AllBytes table) where
+  abbrev shortly : Call
+  shortly = calledShort width height b ceiling budget moves table
+
+  pub short-near :
+      (r : ℕ) (moves′ table′ : List ℕ)
+      → PlanGiven shortly r moves′ table′
+      → r % 256 ≡ 0
+      → (ds : List ℕ)
+      → Solves (shapeOf shortly) b ds
+      → 2 * (r / 65536 % 65536) ≤ 3 * length ds
+  short-near r moves′ table′ given = plan-near shortly bytes r moves′ table′ given

@@ -139,7 +139,8 @@ module _ (bytes found : List ℕ) (r : ℕ) (out : List ℕ) (given : ReadGiven 
               within = subst (λ (o : List ℕ). length (back.movesIn n o) ≤ n .ceiling) same
                   (wrote.written-within plan bytes (length bytes) itself (n .ceiling) refl);
               writes = λ room s room′ enough it.
-                  let at = subst (λ (o : List ℕ). RecordGiven (givenOf n (back.cellsIn n o) (back.movesIn n o)) room s room′) (given .out) it in
+                  let at =
+                  subst (λ (o : List ℕ). RecordGiven (givenOf n (back.cellsIn n o) (back.movesIn n o)) room s room′) (given .out) it in
                   let wrote-it = back.read-writes bytes found each n is room enough in
                   let few = wrote.record-at-most-149 plan room (length bytes) (wrote-it .0) in
                   let packs = at .result ∙ ap packedRecord (wrote-it .0) in

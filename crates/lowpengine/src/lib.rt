@@ -16,11 +16,14 @@ use crate::playing::packed_play;
 use crate::reaching::packed_reach;
 use crate::reading::packed_reading;
 use crate::recording::packed_record;
+use planner::call::SHORT_P;
+use planner::call::SHORT_Q;
 use player::play;
 use records::read::read;
 use records::write::write;
 ghost use mathlib.Core.Path.{_≡_};
 ghost use Rattle.planner.specs.Answer.{called};
+ghost use Rattle.planner.specs.Short.{calledShort};
 ghost use Rattle.records.specs.Write.{given};
 ghost use Rattle.lowpengine.specs.Packed.{packedReach};
 ghost use Rattle.lowpengine.specs.Given.{PlanGiven, PlayGiven, RecordGiven, ReadGiven};
@@ -45,7 +48,7 @@ pub extern "C" fn lowpengine_plan(
     plan_in_bytes(width, height, board, ceiling, budget, p, q, moves, table)
 }
 
-// The short call: no weight, which is 1 over 1.
+// The short call: no weight is given, and it is the planner's for the short call.
 #[no_mangle]
 pub extern "C" fn lowpengine_plan_short(
     width: u32,
@@ -57,10 +60,20 @@ pub extern "C" fn lowpengine_plan_short(
     table: &mut [u8],
 ) -> u64
     ensures { λ r. ⌜ PlanGiven
-        (called width height (now (board .entry)) ceiling budget 1 1 (now (moves .entry)) (now (table .entry)))
+        (calledShort width height (now (board .entry)) ceiling budget (now (moves .entry)) (now (table .entry)))
         r (now (moves .exit)) (now (table .exit)) ⌝ }
 {
-    plan_in_bytes(width, height, board, ceiling, budget, 1, 1, moves, table)
+    plan_in_bytes(
+        width,
+        height,
+        board,
+        ceiling,
+        budget,
+        SHORT_P,
+        SHORT_Q,
+        moves,
+        table,
+    )
 }
 
 // Plays a move list. The number comes back at bit 0; from bit 8 on 1 or 0 for whether the list ends at the goal, or a refusal's cell

@@ -6,16 +6,18 @@
 --     B3   the plan's length against every legal list; what 10 and 9 mean; a ceiling that can't be met; no number of the search comes near
 --          infinity
 --     E5   what the test for 15 means, and that one fraction is taken as one weight
+--     E7   the short call: its weight is taken, and what it promises of a plan's length
 -- Proved in theory/, in Kept, Lowest and Lending. Assumes nothing.
 use Prim.Native.Nat.{ℕ, _+_, _*_, _≤_, _<_}
-use mathlib.Core.Path.{_≡_, subst, sym, _∙_}
-use mathlib.Core.Bool.{true}
+use mathlib.Core.Path.{_≡_, refl, subst, sym, _∙_}
+use mathlib.Core.Bool.{true, false}
 use mathlib.Core.List.{List, _++_}
 use mathlib.Core.Logic.{_↔_, _⊎_, inl}
 use native.Mathlib.Nat.{le-of-mul-le-mul-left}
-use lib.IntN.{negsuc}
+use lib.IntN.{ℤ, negsuc}
 use lib.ListN.{length, take, drop}
 use Rattle.board.specs.Board.{IsBoard}
+use Rattle.board.specs.First.{firstOf}
 use Rattle.board.specs.Lists.{Solves}
 use Rattle.board.specs.Tests.{FirstToHold, NoneHolds}
 use Rattle.board.specs.Distance.{distance}
@@ -30,9 +32,10 @@ use Rattle.planner.specs.declared.Refusal.{Refusal}
 use Rattle.planner.specs.declared.Refusal.the-variants.{Beyond, NoPlan, OutOfVisits, OddBoard}
 use Rattle.planner.specs.declared.Answer.{Answer}
 use Rattle.planner.specs.declared.Answer.the-variants.{Planned, Refused}
-use Rattle.planner.specs.Limits.{ceilingOf, CommonDivisor, sharesDivisor}
+use Rattle.planner.specs.Limits.{ceilingOf, badWeight, CommonDivisor, dividesBoth, sharesDivisor}
 use Rattle.planner.specs.Answer.{Call, Left, Settles, shapeOf, weightOf, tests, cleared, answered}
 use Rattle.planner.specs.Answer.{number, refusalNumber, TestNumber, LateNumber, SearchNumber, visits}
+use Rattle.planner.specs.Short.{shortWeight, calledShort}
 use Rattle.planner.proofs.theory.Ways.{clear}
 use Rattle.planner.proofs.theory.Kept.{ceiling-below-zero, given-exactly, else-searched, each-number, untouched-is, late-is}
 use Rattle.planner.proofs.theory.Kept.{PlanMade, plan-made}
@@ -197,3 +200,19 @@ pub one-result : (l : Left) (a b : Answer) (moves moves′ table table′ : List
     → (a ≡ b) × (moves ≡ moves′) × (table ≡ table′)
 one-result l a b moves moves′ table table′ s u =
     (s .answer ∙ sym (u .answer), s .moves ∙ sym (u .moves), s .table ∙ sym (u .table))
+
+-- ---- E7: the short call
+
+-- its weight passes tests 7 and 15
+pub short-weight-taken : (badWeight (shortWeight .p) (shortWeight .q) ≡ false) × (sharesDivisor (shortWeight .p) (shortWeight .q) ≡ false)
+unfolding badWeight dividesBoth sharesDivisor firstOf
+short-weight-taken = (refl, refl)
+
+-- twice the plan's length is at most three times that of any legal list to the goal
+module _ (width height : ℕ) (board : List ℕ) (ceiling : ℤ) (budget : ℕ) (moves table : List ℕ) where
+  abbrev shortly : Call
+  shortly = calledShort width height board ceiling budget moves table
+
+  pub short-near : (pl : Plan) → answered shortly .answer ≡ Planned pl → (ds : List ℕ) → Solves (shapeOf shortly) board ds
+      → 2 * pl .length ≤ 3 * length ds
+  short-near = plan-near shortly

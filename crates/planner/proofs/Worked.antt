@@ -1,6 +1,6 @@
 -- The boards worked by hand (document 01, those marked P, with the rows that request E3 amends), computed of the whole answer by one
--- statement over a list of cases. The buffers hold other numbers than 0 at first, and are long enough. What tells slips in the search
--- apart is computed there. Assumes nothing.
+-- statement over a list of cases; then a board that tells the short call's weight (E7). The buffers hold other numbers than 0 at first,
+-- and are long enough. What tells slips in the search apart is computed there. Assumes nothing.
 use Prim.Native.Nat.{ℕ}
 use mathlib.Core.Path.{_≡_, refl}
 use mathlib.Core.List.{List, [], _∷_, map, _++_}
@@ -20,7 +20,9 @@ use Rattle.planner.specs.declared.Refusal.the-variants.{Board, OddBoard,
 use Rattle.planner.specs.declared.Answer.{Answer}
 use Rattle.planner.specs.declared.Answer.the-variants.{Planned, Refused}
 use Rattle.planner.specs.Limits.{badCeiling, ceilingOf, badBudget, badWeight, dividesBoth, sharesDivisor, limitTests}
+use Rattle.planner.specs.Answer.{Left}
 use Rattle.planner.specs.Answer.{called, shortBuffer, lastTests, tests, searched, concluded, afterTests, answered, planLength}
+use Rattle.planner.specs.Short.{calledShort}
 
 -- a call at weight 1 over 1, and the answer with its moves that it must get
 pub record Row : Type 0 where
@@ -36,11 +38,13 @@ pub record Seen : Type 0 where
   pub answer : Answer
   pub moves : List ℕ
 
+-- the answer, and the moves of a plan
+abbrev of : Left → Seen
+of left = record { answer = left .answer; moves = take (planLength (left .answer)) (left .moves) }
+
 -- what the call gives, with buffers of 120 and 484 that are filled with other numbers
 pub seen : Row → Seen
-seen r =
-    let left = answered (called (r .width) (r .height) (r .board) (pos (r .ceiling)) (r .budget) 1 1 (replicate 120 7) (replicate 484 9)) in
-    record { answer = left .answer; moves = take (planLength (left .answer)) (left .moves) }
+seen r = of (answered (called (r .width) (r .height) (r .board) (pos (r .ceiling)) (r .budget) 1 1 (replicate 120 7) (replicate 484 9)))
 
 pub expected : Row → Seen
 expected r = record { answer = r .answer; moves = r .moves }
@@ -99,3 +103,29 @@ unfolding seen expected plans refuses rows firstOf firstRefusal under emptyCell 
     visit search badCeiling ceilingOf badBudget badWeight dividesBoth sharesDivisor limitTests shortBuffer lastTests tests searched
     concluded afterTests answered
 worked = refl
+
+-- the short call: twelve moves where a shortest list has ten, in 18 visits; at 1 over 1 these would be 20
+pub seenShort : Row → Seen
+seenShort r =
+    of (answered (calledShort (r .width) (r .height) (r .board) (pos (r .ceiling)) (r .budget) (replicate 120 7) (replicate 484 9)))
+
+pub shortRow : Row
+shortRow =
+    record {
+      width = 2;
+      height = 3;
+      board = 5 ∷ 2 ∷ 1 ∷ 0 ∷ 3 ∷ 4 ∷ [];
+      ceiling = 20;
+      budget = 18;
+      answer = Planned (record { length = 12; visits = 18 });
+      moves =
+          up ∷ left ∷ down ∷ right ∷ up ∷ left ∷ down ∷ down ∷ right ∷ up ∷ left ∷ up ∷ [];
+    }
+
+pub short-worked : seenShort shortRow ≡ expected shortRow
+unfolding seenShort expected shortRow firstOf firstRefusal under emptyCell isGoal staysOn leadsTo legal slide after trayDistance
+    distanceFrom distance lower inversions paritySum isOdd firstTooLarge firstHolding repeats firstRepeat faultTests better bestOf best
+    masked second mayGoOn goesOn handedDown firstStored aboveCeiling static takenUp turn work unlessGoal isSuccessor firstEntry firstRow
+    visit search badCeiling ceilingOf badBudget badWeight dividesBoth sharesDivisor limitTests shortBuffer lastTests tests searched
+    concluded afterTests answered
+short-worked = refl

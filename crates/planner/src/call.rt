@@ -22,6 +22,7 @@ ghost use Rattle.board.specs.Board.{IsBoard};
 ghost use Rattle.board.specs.Tests.{NoneHolds};
 ghost use Rattle.planner.specs.Limits.{limitTests};
 ghost use Rattle.planner.specs.Answer.{shortBuffer, answered, called, within, Settles};
+ghost use Rattle.planner.specs.Short.{calledShort};
 ghost use Rattle.planner.specs.Ends.{LeftWithin, answerOf};
 
 // Plans with the weight p over q. The table gives four numbers for each depth up to the ceiling; the moves of a plan are put into `moves`.
@@ -46,7 +47,12 @@ pub fn plan(
     }
 }
 
-// The short call: no weight, which is 1 over 1.
+// The short call's weight, p over q.
+pub const SHORT_P: u32 = 3;
+
+pub const SHORT_Q: u32 = 2;
+
+// The short call: no weight is given, and it is the short call's own.
 pub fn plan_short(
     width: u32,
     height: u32,
@@ -57,10 +63,20 @@ pub fn plan_short(
     table: &mut [u16],
 ) -> Answer
     ensures { λ r. ⌜ Settles
-        (answered (called width height (now (board .entry)) ceiling budget 1 1 (now (moves .entry)) (now (table .entry))))
+        (answered (calledShort width height (now (board .entry)) ceiling budget (now (moves .entry)) (now (table .entry))))
         r (now (moves .exit)) (now (table .exit)) ⌝ }
 {
-    plan(width, height, board, ceiling, budget, 1, 1, moves, table)
+    plan(
+        width,
+        height,
+        board,
+        ceiling,
+        budget,
+        SHORT_P,
+        SHORT_Q,
+        moves,
+        table,
+    )
 }
 
 // Tests 5 to 7 and 15 of a sound board, and then what follows.

@@ -54,7 +54,7 @@ fn show(
     print_buffers(ceiling, plan_length(answer), &moves, &table);
 }
 
-// The same by the short call.
+// The same by the short call, at the weight 3 over 2.
 fn show_short(width: u32, height: u32, cells: &[u8], ceiling: i32, budget: u32) {
     let mut moves = [0u8; 120];
     let mut table = [0u16; 484];
@@ -292,5 +292,6 @@ fn main() {
     boundaries();
     order_of_tests();
     show_short(2, 2, &[3, 2, 1, 0], 6, 7);
+    show_short(2, 3, &[5, 2, 1, 0, 3, 4], 20, 18);
     jobs();
 }

@@ -1,4 +1,4 @@
--- `planner::call::plan_short` meets its contract: it is the call with weight 1 over 1. Assumes nothing.
+-- `planner::call::plan_short` meets its contract: it is the call with the short call's weight. Assumes nothing.
 use borrow.Author.Needs.{needs}
 use mir.Syntax.{w32}
 use mir.ValLaws.{toZ-ofZ}
