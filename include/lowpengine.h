@@ -18,6 +18,12 @@
 #include <stddef.h>
 #include <stdint.h>
 
+/* The version of this header and of the archive that was installed with it. docs/C-INTERFACE.md says what changes it. */
+#define LOWPENGINE_VERSION "1.0.0"
+#define LOWPENGINE_VERSION_MAJOR 1
+#define LOWPENGINE_VERSION_MINOR 0
+#define LOWPENGINE_VERSION_PATCH 0
+
 #ifdef __cplusplus
 extern "C" {
 #endif

@@ -3,6 +3,10 @@
 #define SHIM_STDDEF_H
 
 typedef __SIZE_TYPE__ size_t;
+#ifdef __cplusplus
+#define NULL nullptr
+#else
 #define NULL ((void *)0)
+#endif
 
 #endif
