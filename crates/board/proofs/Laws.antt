@@ -41,9 +41,11 @@ pub use Rattle.board.proofs.theory.Distances.{distance-from-cell, dista
 pub use Rattle.board.proofs.theory.Distances.{distance-0-goal, distance-0-iff-goal, move-distance}
 -- the change of distance by a move and along a list, and the distance kept beside a position
 pub use Rattle.board.proofs.theory.Changes.{looked-up, readBack, read-back, move-change, move-one-step, answered-change}
-pub use Rattle.board.proofs.theory.Changes.{list-distance}
+pub use Rattle.board.proofs.theory.Changes.{list-distance, way-looked-up, change-by-cell}
 pub use Rattle.board.proofs.theory.Keeping.{goal-by-distance, kept-most, kept-goal, leads-on, changed-distance, kept-on}
 pub use Rattle.board.proofs.theory.Keeping.{leads-nearer, leads-farther}
+-- where a move leads after another
+pub use Rattle.board.proofs.theory.Ways.{Leads, way-on, way-off, way-back, way-leads, way-none, way-inside}
 -- a held board's cells as the digits of a number
 pub use Rattle.board.proofs.theory.Digits.{length-digits, at-digits}
 -- the parity of test 9

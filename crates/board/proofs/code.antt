@@ -2,6 +2,7 @@
 -- position that holds a board, a tray slid in it, and a loop that follows a board's cycles. Assumes nothing.
 pub mod FirstLoop
 pub mod Entries
+pub mod Filling
 pub mod Holding
 pub mod Sliding
 pub mod Away

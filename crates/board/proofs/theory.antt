@@ -11,6 +11,7 @@ pub mod OneApart
 pub mod Steps
 pub mod Moving
 pub mod Distances
+pub mod Ways
 pub mod Changes
 pub mod Keeping
 pub mod Inversions

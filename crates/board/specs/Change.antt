@@ -30,6 +30,10 @@ change s b m =
     let t = leadsTo s e m in
     changeOf (trayDistance s e (at b t)) (trayDistance s t (at b t))
 
+-- the same by the cell t
+abbrev pub changeTo : Shape → List ℕ → ℕ → ℤ
+changeTo s b t = changeOf (trayDistance s (emptyCell b) (at b t)) (trayDistance s t (at b t))
+
 -- all changes along a list of moves, added up
 unfoldable pub changes : Shape → List ℕ → List ℕ → ℤ
 changes s b [] = pos 0

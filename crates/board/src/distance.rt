@@ -1,14 +1,16 @@
-// The distance of a held board, by the table of distances between pairs of cells of a grid four wide.
+// The distance of a held board, and the shape's own table, by the table of distances between pairs of cells of a grid four wide.
 use crate::Position;
 use crate::Shape;
 use crate::held::cell_count;
 use crate::held::number_at;
+use crate::moves::way_entry;
 use crate::number_of;
 use crate::table::DISTANCES;
 ghost use mathlib.Core.Path.{_≡_};
-ghost use Prim.Native.Nat.{_<_};
+ghost use Prim.Native.Nat.{_<_, _+_, _*_};
+ghost use lib.ListN.{length};
 ghost use Rattle.board.specs.Shape.{cells, GoodShape};
-ghost use Rattle.board.specs.Distance.{DistanceTable, fourWide, nearAt, NearTable};
+ghost use Rattle.board.specs.Distance.{trayDistance, DistanceTable, fourWide, wayAt, NearTable, RunPut};
 ghost use Rattle.board.specs.Distance.{distance as Distance·distance};
 ghost use Rattle.board.specs.Held.{held, Holds};
 
@@ -19,23 +21,56 @@ pub fn distances() -> [u8; 256]
     DISTANCES
 }
 
-// The shape's own table: entry 16i + v is what the tray v in cell i adds to the distance. Made once for a search.
-pub fn near_table(shape: Shape) -> [u8; 256]
+// The shape's own table, 64 entries for each of its cells: what each tray adds to the distance there, and the ways from there. Made once
+// for a search or a play.
+pub fn near_table(shape: Shape) -> [u8; 1024]
     requires { ⌜ GoodShape shape ⌝ }
     ensures { λ r. ⌜ NearTable shape r ⌝ }
 {
     let table = distances();
-    let mut near = [0u8; 256];
-    let mut k = 0;
-    while k < 256 {
-        near[k] = near_entry(shape, k, &table);
-        k += 1;
+    let n = cell_count(shape);
+    let mut near = [0u8; 1024];
+    let mut e = 0;
+    while e < n {
+        put_near(shape, e, &table, &mut near);
+        put_ways(shape, e, &mut near);
+        e += 1;
     }
     near
 }
 
+// Puts what each tray adds in cell e.
+fn put_near(shape: Shape, e: usize, table: &[u8; 256], near: &mut [u8; 1024])
+    requires { ⌜ GoodShape shape ⌝ }
+    requires { ⌜ e < cells shape ⌝ }
+    requires { ⌜ DistanceTable (now table) ⌝ }
+    requires { ⌜ length (now near) ≡ 1024 ⌝ }
+    ensures { λ _. ⌜ RunPut (trayDistance shape e) (64 * e) (cells shape) (now (near .entry)) (now (near .exit)) ⌝ }
+{
+    let n = cell_count(shape);
+    let mut v = 0;
+    while v < n {
+        near[64 * e + v] = near_entry(shape, e, v, table);
+        v += 1;
+    }
+}
+
+// Puts the ways from cell e.
+fn put_ways(shape: Shape, e: usize, near: &mut [u8; 1024])
+    requires { ⌜ GoodShape shape ⌝ }
+    requires { ⌜ e < cells shape ⌝ }
+    requires { ⌜ length (now near) ≡ 1024 ⌝ }
+    ensures { λ _. ⌜ RunPut (wayAt shape e) (64 * e + 16) 20 (now (near .entry)) (now (near .exit)) ⌝ }
+{
+    let mut k = 0;
+    while k < 20 {
+        near[64 * e + 16 + k] = way_entry(shape, e, k / 4, k % 4) as u8;
+        k += 1;
+    }
+}
+
 // Rows plus columns from each tray to its goal cell, summed over the board. Whoever makes moves sums once and then keeps the distance.
-pub fn distance(shape: Shape, p: Position, near: &[u8; 256]) -> usize
+pub fn distance(shape: Shape, p: Position, near: &[u8; 1024]) -> usize
     requires { ⌜ Holds shape p ⌝ }
     requires { ⌜ NearTable shape (now near) ⌝ }
     ensures { λ r. ⌜ r ≡ Distance·distance shape (held shape p) ⌝ }
@@ -44,40 +79,40 @@ pub fn distance(shape: Shape, p: Position, near: &[u8; 256]) -> usize
     let mut sum = 0;
     let mut i = 0;
     while i < n {
-        sum += number_of(near[16 * i + number_at(p, i)]);
+        sum += number_of(near[64 * i + number_at(p, i)]);
         i += 1;
     }
     sum
 }
 
-// Entry k of the shape's table, by the cells of a grid four wide with the same rows and columns; 0 is the empty cell and no tray.
-fn near_entry(shape: Shape, k: usize, table: &[u8; 256]) -> u8
+// What the tray v in cell i adds, by the cells of a grid four wide with the same rows and columns; 0 is the empty cell and no tray.
+fn near_entry(shape: Shape, i: usize, v: usize, table: &[u8; 256]) -> u8
     requires { ⌜ GoodShape shape ⌝ }
-    requires { ⌜ k < 256 ⌝ }
+    requires { ⌜ (i < cells shape) × (v < cells shape) ⌝ }
     requires { ⌜ DistanceTable (now table) ⌝ }
-    ensures { λ r. ⌜ r ≡ nearAt shape k ⌝ }
+    ensures { λ r. ⌜ r ≡ trayDistance shape i v ⌝ }
 {
-    let n = cell_count(shape);
-    let i = k / 16;
-    let v = k % 16;
     if v == 0 {
-        return 0;
-    }
-    if n <= i {
-        return 0;
-    }
-    if n <= v {
         return 0;
     }
     table[16 * four_wide(shape, i) + four_wide(shape, v)]
 }
 
-// The cell of a grid four wide with the row and the column of cell i.
+// The cell of a grid four wide with the row and the column of cell i, by at most three comparisons.
 fn four_wide(shape: Shape, i: usize) -> usize
     requires { ⌜ GoodShape shape ⌝ }
     requires { ⌜ i < cells shape ⌝ }
     ensures { λ r. ⌜ r ≡ fourWide shape i ⌝ }
 {
     let width = shape.width;
-    4 * (i / width) + i % width
+    if i < width {
+        return i;
+    }
+    if i < 2 * width {
+        return i - width + 4;
+    }
+    if i < 3 * width {
+        return i - 2 * width + 8;
+    }
+    i - 3 * width + 12
 }

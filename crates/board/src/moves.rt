@@ -1,19 +1,20 @@
-// When a move is legal, the position after it, and how it changes the distance.
+// When a move is legal, where it leads, the position after it, and how it changes the distance.
 use crate::Moved;
 use crate::Position;
 use crate::Shape;
 use crate::held::number_at;
+use crate::number_of;
 ghost use mathlib.Core.Path.{_≡_};
 ghost use mathlib.Core.Bool.{true};
-ghost use Prim.Native.Nat.{_<_, _*_, _%_};
+ghost use Prim.Native.Nat.{_≤_, _<_, _*_, _%_};
 ghost use lib.IntN.{pos, _+ℤ_};
 ghost use Rattle.board.specs.Shape.{cells, Side, GoodShape};
 ghost use Rattle.board.specs.Moves.{staysOn, leadsTo};
 ghost use Rattle.board.specs.Moves.{legal as Moves·legal};
 ghost use Rattle.board.specs.Distance.{NearTable};
+ghost use Rattle.board.specs.Distance.{way as Distance·way};
 ghost use Rattle.board.specs.Held.{held, Holds, Slides, Slid};
-ghost use Rattle.board.specs.Change.{changeOf, MovedBy, LeadsOn};
-ghost use Rattle.board.specs.Change.{change as Change·change};
+ghost use Rattle.board.specs.Change.{changeOf, changeTo, MovedBy, LeadsOn};
 
 // The move is legal on the held board; a number above 3 is no move.
 pub fn legal(shape: Shape, p: Position, m: usize) -> bool
@@ -24,28 +25,56 @@ pub fn legal(shape: Shape, p: Position, m: usize) -> bool
 }
 
 // The position after a legal move, and the change of its distance.
-pub fn after(shape: Shape, p: Position, m: usize, near: &[u8; 256]) -> Moved
+pub fn after(shape: Shape, p: Position, m: usize, near: &[u8; 1024]) -> Moved
     requires { ⌜ Holds shape p ⌝ }
     requires { ⌜ Moves·legal shape (held shape p) m ≡ true ⌝ }
     requires { ⌜ NearTable shape (now near) ⌝ }
     ensures { λ r. ⌜ MovedBy shape (held shape p) m r ⌝ }
 {
-    let change = change_by(shape, p, m, near);
-    let position = slid(p, leads_to(shape, p.empty, m));
+    let t = way(shape, p.empty, 4, m, near);
+    let change = change_to(shape, p, t, near);
+    let position = slid(p, t);
     Moved { position, change }
 }
 
-// The change of distance by a legal move: that of the one tray that slides, by the shape's own table.
-pub fn change_by(shape: Shape, p: Position, m: usize, near: &[u8; 256]) -> i8
-    requires { ⌜ Holds shape p ⌝ }
-    requires { ⌜ Moves·legal shape (held shape p) m ≡ true ⌝ }
+// The cell that the move m leads to from cell e after the move `last`, by the shape's own table: e itself where it leaves the grid or takes
+// the last move back. One look-up for both: this is in the search's inner loop.
+pub fn way(shape: Shape, e: usize, last: usize, m: usize, near: &[u8; 1024]) -> usize
+    requires { ⌜ GoodShape shape ⌝ }
+    requires { ⌜ e < cells shape ⌝ }
+    requires { ⌜ (last ≤ 4) × (m < 4) ⌝ }
     requires { ⌜ NearTable shape (now near) ⌝ }
-    ensures { λ r. ⌜ r ≡ Change·change shape (held shape p) m ⌝ }
+    ensures { λ r. ⌜ r ≡ Distance·way shape e last m ⌝ }
+{
+    number_of(near[64 * e + 16 + 4 * last + m])
+}
+
+// The change of distance where the empty cell goes to cell t: that of the one tray that slides, by the shape's own table.
+pub fn change_to(shape: Shape, p: Position, t: usize, near: &[u8; 1024]) -> i8
+    requires { ⌜ Holds shape p ⌝ }
+    requires { ⌜ t < cells shape ⌝ }
+    requires { ⌜ NearTable shape (now near) ⌝ }
+    ensures { λ r. ⌜ r ≡ changeTo shape (held shape p) t ⌝ }
 {
     let e = p.empty;
-    let t = leads_to(shape, e, m);
     let tray = number_at(p, t);
-    change_of(near[16 * e + tray], near[16 * t + tray])
+    change_of(near[64 * e + tray], near[64 * t + tray])
+}
+
+// The same by the rules themselves, to be put into that table.
+pub fn way_entry(shape: Shape, e: usize, last: usize, m: usize) -> usize
+    requires { ⌜ GoodShape shape ⌝ }
+    requires { ⌜ e < cells shape ⌝ }
+    requires { ⌜ (last ≤ 4) × (m < 4) ⌝ }
+    ensures { λ r. ⌜ r ≡ Distance·way shape e last m ⌝ }
+{
+    if last + m == 3 {
+        return e;
+    }
+    if stays_on(shape, e, m) {
+        return leads_to(shape, e, m);
+    }
+    e
 }
 
 // The distance after a move that changed it, from the one before.
@@ -80,7 +109,7 @@ fn change_of(new: u8, old: u8) -> i8
     1
 }
 
-// The move from cell e stays on the grid. No division: this is in the search's inner loop.
+// The move from cell e stays on the grid. No division: every table asks it of each cell and move.
 fn stays_on(shape: Shape, e: usize, m: usize) -> bool
     requires { ⌜ GoodShape shape ⌝ }
     requires { ⌜ e < cells shape ⌝ }

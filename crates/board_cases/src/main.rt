@@ -65,7 +65,7 @@ fn show_moves(shape: Shape, p: Position)
 }
 
 // The board after the first legal move.
-fn show_after_first(shape: Shape, p: Position, near: &[u8; 256])
+fn show_after_first(shape: Shape, p: Position, near: &[u8; 1024])
     requires { ⌜ Holds shape p ⌝ }
     requires { ⌜ NearTable shape (now near) ⌝ }
 {

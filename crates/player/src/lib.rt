@@ -78,7 +78,7 @@ fn play_held(
     shape: Shape,
     start: Position,
     h: usize,
-    near: &[u8; 256],
+    near: &[u8; 1024],
     moves: &[u8],
     out: &mut [u8],
 ) -> Played

@@ -28,7 +28,7 @@ pub struct Ran {
 }
 
 // Plays the moves up to the first bad one, from a position whose distance is h.
-pub fn run(shape: Shape, start: Position, h: usize, near: &[u8; 256], moves: &[u8]) -> Ran
+pub fn run(shape: Shape, start: Position, h: usize, near: &[u8; 1024], moves: &[u8]) -> Ran
     requires { ⌜ Kept shape start h ⌝ }
     requires { ⌜ NearTable shape (now near) ⌝ }
     ensures { λ r. ⌜ RanAs shape (held shape start) (now (moves .entry)) r ⌝ }

@@ -3,6 +3,7 @@
 pub mod BoardSpace
 pub mod TableRows
 pub mod Outcomes
+pub mod Answers
 pub mod Picking
 pub mod Working
 pub mod Visiting

@@ -1,10 +1,10 @@
 -- What the code of the search is held to: which jobs it takes, how a row lies in the table, and what a visit or the work on a row
 -- leaves in the two buffers. Assumes nothing.
-use Prim.Native.Nat.{ℕ, suc, _+_, _*_, _-_, _≤_, _<_}
+use Prim.Native.Nat.{ℕ, suc, _+_, _*_, _-_, _/_, _%_, _≤_, _<_}
 use mathlib.Core.Path.{_≡_}
 use mathlib.Core.Bool.{cond}
 use mathlib.Core.List.{List, _++_}
-use lib.Dec.{T}
+use lib.Dec.{T, eqb}
 use lib.ListN.{length, take, drop, replicate}
 use Rattle.board.specs.Shape.{GoodShape}
 use Rattle.board.specs.Moves.{legal}
@@ -76,6 +76,14 @@ unfoldable pub told : ℕ → Outcome → Out
 told g (found ms left) = Found (g + length ms) left
 told g (value v left) = Value v left
 told g spent = Spent
+
+-- an answer in one number, as visits hand it up: what is left in the lowest 32 bits, a value or a length in the 16 above, then the kind
+unfoldable pub answerOf : ℕ → Out
+answerOf x =
+    let left = x % 4294967296 in
+    let n = x / 4294967296 % 65536 in
+    let kind = x / 281474976710656 in
+    cond (eqb kind 0) (Value n left) (cond (eqb kind 1) (Found n left) Spent)
 
 -- the move buffer afterwards: a path is written from place g on, and nothing else ever
 unfoldable pub written : ℕ → Outcome → List ℕ → List ℕ

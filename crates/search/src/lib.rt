@@ -1,11 +1,14 @@
 // The search: recursive best-first search (Korf 1993) with the customer's move order, tie rule and ceiling.
 //
 // specs/Search.antt is the search in the paper's words, specs/Row.antt every decision that it takes, specs/Run.antt what the code is held
-// to. `run` is a whole search, the one function that another part calls; `visits` has visit and work, `row` the decisions.
+// to. `run` is a whole search, the one function that another part calls; `visits` has visit and work, `row` the decisions,
+// `answer` how a visit tells its end.
 
+mod answer;
 mod row;
 mod visits;
 
+use crate::answer::answer_of;
 use crate::row::INFINITY;
 use crate::visits::static_value;
 use crate::visits::visit;
@@ -79,7 +82,7 @@ fn from_start(job: Job, start: Position, budget: u32, moves: &mut [u8], table: &
     let h = distance(job.shape, start, &near);
     let f = static_value(job, h, 0);
     let mut path = [0u8; 120];
-    let out = visit(
+    let back = visit(
         job,
         start,
         h,
@@ -92,6 +95,7 @@ fn from_start(job: Job, start: Position, budget: u32, moves: &mut [u8], table: &
         table,
         &mut path,
     );
+    let out = answer_of(back);
     put_path(found_length(out), &path, moves);
     out
 }

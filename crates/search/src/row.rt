@@ -4,8 +4,8 @@ use crate::Pick;
 ghost use mathlib.Core.Path.{_≡_};
 ghost use mathlib.Core.Bool.{not};
 ghost use mathlib.Core.List.{[], _∷_};
-ghost use Prim.Native.Nat.{_≤_, _<_, _+_, min};
-ghost use Rattle.search.specs.Row.{bestOf, mayGoOn, firstStored, aboveCeiling, takesBack};
+ghost use Prim.Native.Nat.{_≤_, _+_, min};
+ghost use Rattle.search.specs.Row.{bestOf, mayGoOn, firstStored, aboveCeiling};
 ghost use Rattle.search.specs.Row.{better as Row·better};
 ghost use Rattle.search.specs.Run.{Picks};
 
@@ -82,13 +82,4 @@ pub fn above_ceiling(ceiling: usize, g: usize, h: usize) -> bool
     ensures { λ r. ⌜ r ≡ aboveCeiling ceiling g h ⌝ }
 {
     ceiling - g < h
-}
-
-// The move m takes back the move `last`.
-pub fn takes_back(last: usize, m: usize) -> bool
-    requires { ⌜ last ≤ 4 ⌝ }
-    requires { ⌜ m < 4 ⌝ }
-    ensures { λ r. ⌜ r ≡ takesBack last m ⌝ }
-{
-    last + m == 3
 }

@@ -7,6 +7,10 @@ use crate::Choice;
 use crate::Job;
 use crate::Out;
 use crate::Pick;
+use crate::answer::answer_of;
+use crate::answer::told_found;
+use crate::answer::told_spent;
+use crate::answer::told_value;
 use crate::row::INFINITY;
 use crate::row::above_ceiling;
 use crate::row::best_of;
@@ -14,12 +18,11 @@ use crate::row::first_stored;
 use crate::row::lesser;
 use crate::row::picked;
 use crate::row::stops_at;
-use crate::row::takes_back;
 use board::Position;
 use board::moves::after;
-use board::moves::change_by;
+use board::moves::change_to;
 use board::moves::changed;
-use board::moves::legal;
+use board::moves::way;
 ghost use mathlib.Core.Path.{_≡_};
 ghost use Prim.Native.Nat.{_+_, _*_, _-_, _≤_, _<_};
 ghost use lib.ListN.{length};
@@ -30,7 +33,7 @@ ghost use Rattle.search.specs.Row.{best, firstStored};
 ghost use Rattle.search.specs.Space.{boards};
 ghost use Rattle.search.specs.Search.{static, firstEntry, firstRow};
 ghost use Rattle.search.specs.Run.{SmallJob, Room, rowAt, putRow, visited, worked, Ran, Open, Picks};
-ghost use Rattle.search.specs.Run.{valueAt, cutAt, firstAt};
+ghost use Rattle.search.specs.Run.{valueAt, cutAt, firstAt, answerOf};
 
 // A visit to the position at depth g, reached by the move `last`, with its stored value and a bound; `left` visits may still be made.
 pub fn visit(
@@ -42,26 +45,26 @@ pub fn visit(
     stored: u16,
     bound: u16,
     left: u32,
-    near: &[u8; 256],
+    near: &[u8; 1024],
     table: &mut [u16],
     moves: &mut [u8; 120],
-) -> Out
+) -> u64
     requires { ⌜ SmallJob job ⌝ }
     requires { ⌜ Kept (job .shape) p h ⌝ }
     requires { ⌜ (last ≤ 4) × (g ≤ job .ceiling) ⌝ }
     requires { ⌜ NearTable (job .shape) (now near) ⌝ }
     requires { ⌜ Room job (now table) (now moves) ⌝ }
     ensures { λ r. ⌜ Ran g (visited job (held (job .shape) p) last g stored bound left)
-        (now (table .entry)) (now (moves .entry)) r (now (table .exit)) (now (moves .exit)) ⌝ }
+        (now (table .entry)) (now (moves .entry)) (answerOf r) (now (table .exit)) (now (moves .exit)) ⌝ }
 {
     if left == 0 {
-        return Out::Spent;
+        return told_spent();
     }
     if h == 0 {
-        return Out::Found(g, left - 1);
+        return told_found(g, left - 1);
     }
     if g == job.ceiling {
-        return Out::Value(INFINITY, left - 1);
+        return told_value(INFINITY, left - 1);
     }
     first_row(job, p, h, last, g, stored, near, table);
     work(job, p, h, g, bound, left - 1, near, table, moves)
@@ -75,10 +78,10 @@ fn work(
     g: usize,
     bound: u16,
     left: u32,
-    near: &[u8; 256],
+    near: &[u8; 1024],
     table: &mut [u16],
     moves: &mut [u8; 120],
-) -> Out
+) -> u64
     requires { ⌜ SmallJob job ⌝ }
     requires { ⌜ Kept (job .shape) p h ⌝ }
     requires { ⌜ g < job .ceiling ⌝ }
@@ -86,13 +89,13 @@ fn work(
     requires { ⌜ Room job (now table) (now moves) ⌝ }
     requires { ⌜ Open job (held (job .shape) p) (rowAt (now table) g) ⌝ }
     ensures { λ r. ⌜ Ran g (worked job (held (job .shape) p) g bound (rowAt (now (table .entry)) g) left)
-        (now (table .entry)) (now (moves .entry)) r (now (table .exit)) (now (moves .exit)) ⌝ }
+        (now (table .entry)) (now (moves .entry)) (answerOf r) (now (table .exit)) (now (moves .exit)) ⌝ }
 {
     let mut left = left;
     let best = row_best(table, g);
     let mut least = best.value;
     if stops_at(bound, least) {
-        return Out::Value(least, left);
+        return told_value(least, left);
     }
     loop {
         let pick = row_pick(table, g, least);
@@ -101,7 +104,7 @@ fn work(
         let down = lesser(bound, second);
         let next = after(job.shape, p, m, near);
         let next_h = changed(h, next.change);
-        match visit(
+        let back = visit(
             job,
             next.position,
             next_h,
@@ -113,22 +116,23 @@ fn work(
             near,
             table,
             moves,
-        ) {
-            Out::Found(length, rest) => {
+        );
+        match answer_of(back) {
+            Out::Found(_, _) => {
                 moves[g] = m as u8;
-                return Out::Found(length, rest);
+                return back;
             }
             Out::Value(v, rest) => {
                 // v is above the bound handed down, or infinity. So where the second least stops the work, this visit was the last;
                 if stops_at(bound, second) {
-                    return Out::Value(lesser(v, second), rest);
+                    return told_value(lesser(v, second), rest);
                 }
                 // and otherwise the second least is the row's least now.
                 table[4 * g + m] = v;
                 least = second;
                 left = rest;
             }
-            Out::Spent => return Out::Spent,
+            Out::Spent => return back,
         }
     }
 }
@@ -167,7 +171,7 @@ fn first_row(
     last: usize,
     g: usize,
     stored: u16,
-    near: &[u8; 256],
+    near: &[u8; 1024],
     table: &mut [u16],
 )
     requires { ⌜ SmallJob job ⌝ }
@@ -199,7 +203,7 @@ fn first_entry(
     m: usize,
     closer: u16,
     farther: u16,
-    near: &[u8; 256],
+    near: &[u8; 1024],
 ) -> u16
     requires { ⌜ Kept (job .shape) p h ⌝ }
     requires { ⌜ (last ≤ 4) × (m < 4) ⌝ }
@@ -208,16 +212,15 @@ fn first_entry(
     ensures { λ r. ⌜ r ≡ firstEntry (boards (job .shape)) (static (boards (job .shape)) (job .weight)) (job .ceiling)
         g (held (job .shape) p) last stored m ⌝ }
 {
-    if takes_back(last, m) {
+    let e = p.empty;
+    let t = way(job.shape, e, last, m, near);
+    if t == e {
         return INFINITY;
     }
-    if legal(job.shape, p, m) {
-        if change_by(job.shape, p, m, near) < 0 {
-            return closer;
-        }
-        return farther;
+    if change_to(job.shape, p, t, near) < 0 {
+        return closer;
     }
-    INFINITY
+    farther
 }
 
 // The first stored value of a successor at depth g, whose distance is h: infinity where g + h is above the ceiling.

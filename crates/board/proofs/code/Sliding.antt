@@ -20,13 +20,13 @@ use Rattle.board.specs.Moves.{staysOn, leadsTo, legal, slide, after}
 use Rattle.board.specs.Distance.{trayDistance, distance, NearTable}
 use Rattle.board.specs.Digits.{digits, digit}
 use Rattle.board.specs.Held.{held, Holds, Taken, Slides, Slid}
-use Rattle.board.specs.Change.{OneStep, changeOf, change, MovedBy}
+use Rattle.board.specs.Change.{OneStep, changeOf, change, changeTo, MovedBy}
 use Rattle.board.proofs.theory.Sides.{cells-within}
 use Rattle.board.proofs.theory.Boards.{empty-inside, empty-holds-0}
 use Rattle.board.proofs.theory.Moving.{target, target-inside, target-elsewhere, after-board, after-empty}
 use Rattle.board.proofs.theory.Digits.{word, packed, Small, packed-below, packed-word, packed-set, length-digits, at-digits}
 use Rattle.board.proofs.theory.Digits.{digits-packed, packed-digits}
-use Rattle.board.proofs.theory.Changes.{looked-up, move-change, move-one-step}
+use Rattle.board.proofs.theory.Changes.{looked-up, change-by-cell, move-change, move-one-step}
 
 pub passes : {t : Bool} → t ≡ true → T t
 passes e = subst T (sym e) tt
@@ -63,9 +63,29 @@ module _ (s : Shape) (p : Position) (holds : Holds s p) where
   unfolding legal
   stays m allowed = ap (λ (e : ℕ). staysOn s e m) (holds .empty) ∙ allowed
 
+  -- ---- the tray x that stands in cell t, and the table's two entries for it
+
+  module _ (t x : ℕ) (below : t < cells s) (stands : x ≡ digit (p .cells) t) where
+    in-board : x ≡ at (held s p) t
+    in-board = stands ∙ sym (at-digits (cells s) (p .cells) t below)
+
+    tray-below : x < cells s
+    tray-below = omega (arith, in-board, holds .board .small t below)
+
+    pub entries-tell : (near : List ℕ) → NearTable s near
+        → changeOf (getD near (64 * p .empty + x) 0) (getD near (64 * t + x) 0) ≡ changeTo s (held s p) t
+    entries-tell near table =
+        ap₂ changeOf (looked-up s near (p .empty) x (holds .shape) table empty-below tray-below)
+        (looked-up s near t x (holds .shape) table below tray-below)
+        ∙ ap (λ (v : ℕ). changeOf (trayDistance s (p .empty) v) (trayDistance s t v)) in-board
+        ∙ ap (λ (e : ℕ). changeOf (trayDistance s e (at (held s p) t)) (trayDistance s t (at (held s p) t))) (holds .empty)
+
   module _ (m t : ℕ) (allowed : legal s (held s p) m ≡ true) (is : t ≡ leadsTo s (p .empty) m) where
     target-is : t ≡ target s (held s p) m
     target-is = is ∙ ap (λ (e : ℕ). leadsTo s e m) (holds .empty)
+
+    pub change-is : changeTo s (held s p) t ≡ change s (held s p) m
+    change-is = change-by-cell s (held s p) m t target-is
 
     pub target-below : t < cells s
     target-below =
@@ -166,24 +186,6 @@ module _ (s : Shape) (p : Position) (holds : Holds s p) where
                       (packed-below (after s board m) (board-small s (after s board m) (holds .shape) is-board)));
                 };
           }
-
-    -- ---- the tray x that stands in cell t
-
-    module _ (x : ℕ) (stands : x ≡ digit (p .cells) t) where
-      tray-in-board : x ≡ at (held s p) t
-      tray-in-board = stands ∙ sym (read t target-below)
-
-      tray-below : x < cells s
-      tray-below = omega (arith, tray-in-board, holds .board .small t target-below)
-
-      module _ (near : List ℕ) (table : NearTable s near) where
-        pub entries-tell : changeOf (getD near (16 * p .empty + x) 0) (getD near (16 * t + x) 0) ≡ change s (held s p) m
-        unfolding change
-        entries-tell =
-            ap₂ changeOf (looked-up s near (p .empty) x (holds .shape) table empty-below tray-below)
-            (looked-up s near t x (holds .shape) table target-below tray-below)
-            ∙ ap (λ (v : ℕ). changeOf (trayDistance s (p .empty) v) (trayDistance s t v)) tray-in-board
-            ∙ ap₂ (λ (e k : ℕ). changeOf (trayDistance s e (at (held s p) k)) (trayDistance s k (at (held s p) k))) (holds .empty) target-is
 
     -- ---- the move's answer: the slide, and the change
 

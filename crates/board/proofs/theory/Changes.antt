@@ -1,7 +1,7 @@
--- The change of distance by a legal move. First what the shape's table gives for a tray, and one more and one less among the integers.
--- Then the laws: a move's distance is the one before it plus its change, which is -1 or +1; along a legal list the first distance plus
--- all changes is the last; and what a move answers is its change. Assumes nothing.
-use Prim.Native.Nat.{ℕ, zero, suc, _+_, _*_, _/_, _%_, _≤_, _<_}
+-- The change of distance by a legal move. First what the shape's table gives for a tray and for a way, and one more and one less among the
+-- integers. Then the laws: a move's distance is the one before it plus its change, which is -1 or +1; along a legal list the first distance
+-- plus all changes is the last; and what a move answers is its change. Assumes nothing.
+use Prim.Native.Nat.{ℕ, zero, suc, _+_, _*_, _-_, _/_, _%_, _≤_, _<_}
 use mathlib.Core.Path.{_≡_, refl, sym, _∙_, ap}
 use mathlib.Core.Logic.{_≢_, inl, inr}
 use mathlib.Core.Bool.{Bool, true, false, cond}
@@ -12,15 +12,15 @@ use lib.IntN.{ℤ, pos, negsuc, _+ℤ_, -ℤ-one, +ℤ-idr, +ℤ-assoc, natAbs, 
 use lib.ListN.{length, getD}
 use mir.Syntax.{w8}
 use mir.Val.{toZ, ofZ}
-use borrow.Author.Tests.{lt-ltb, ltb-true, ltb-false}
+use borrow.Author.Tests.{lt-ltb, le-ltb, ltb-true, ltb-false}
 use Rattle.board.specs.declared.Shape.{Shape}
 use Rattle.board.specs.declared.Moved.{Moved}
 use Rattle.board.specs.Shape.{cells, GoodShape}
 use Rattle.board.specs.Board.{at, IsBoard, emptyCell}
-use Rattle.board.specs.Moves.{legal, after}
+use Rattle.board.specs.Moves.{leadsTo, legal, after}
 use Rattle.board.specs.Lists.{LegalList, endBoard}
-use Rattle.board.specs.Distance.{trayDistance, distanceFrom, distance, nearAt, NearTable}
-use Rattle.board.specs.Change.{OneStep, nearer, farther, changeOf, change, changes, MovedBy}
+use Rattle.board.specs.Distance.{trayDistance, distanceFrom, distance, way, cellAt, nearAt, NearTable}
+use Rattle.board.specs.Change.{OneStep, nearer, farther, changeOf, change, changeTo, changes, MovedBy}
 use Rattle.board.proofs.theory.OneApart.{OneApart}
 use Rattle.board.proofs.theory.Sides.{cells-within}
 use Rattle.board.proofs.theory.Boards.{empty-inside, empty-holds-0}
@@ -31,15 +31,37 @@ use Rattle.board.proofs.theory.Distances.{tray-between, step-between, d
 
 -- ---- the shape's table
 
-pub looked-up : (s : Shape) (near : List ℕ) (i v : ℕ) → GoodShape s → NearTable s near → i < cells s → v < cells s
-    → getD near (16 * i + v) 0 ≡ trayDistance s i v
+-- entry j of cell e
+entry-at : (s : Shape) (near : List ℕ) (e j : ℕ) → GoodShape s → NearTable s near → e < cells s → j < 64
+    → getD near (64 * e + j) 0 ≡ cellAt s e j
 unfolding nearAt
+entry-at s near e j good table below few =
+    let most = cells-within good in
+    let cell : (64 * e + j) / 64 ≡ e = omega arith in
+    let place : (64 * e + j) % 64 ≡ j = omega arith in
+    table .entry (64 * e + j) (omega arith) ∙ simp (cell, place, lt-ltb e (cells s) below)
+
+pub looked-up : (s : Shape) (near : List ℕ) (i v : ℕ) → GoodShape s → NearTable s near → i < cells s → v < cells s
+    → getD near (64 * i + v) 0 ≡ trayDistance s i v
+unfolding cellAt
 looked-up s near i v good table below-i below-v =
     let few = cells-within good in
-    let cell : (16 * i + v) / 16 ≡ i = omega arith in
-    let value : (16 * i + v) % 16 ≡ v = omega arith in
-    table .entry (16 * i + v) (omega arith)
-    ∙ simp (cell, value, lt-ltb i (cells s) below-i, lt-ltb v (cells s) below-v)
+    entry-at s near i v good table below-i (omega arith) ∙ simp (lt-ltb v 16 (omega arith), lt-ltb v (cells s) below-v)
+
+way-cell : (s : Shape) (e last m : ℕ) → last ≤ 4 → m < 4 → cellAt s e (16 + 4 * last + m) ≡ way s e last m
+unfolding cellAt
+way-cell s e last m few move =
+    let earlier : (16 + 4 * last + m - 16) / 4 ≡ last = omega arith in
+    let step : (16 + 4 * last + m - 16) % 4 ≡ m = omega arith in
+    simp (le-ltb (16 + 4 * last + m) 16 (omega arith), lt-ltb (16 + 4 * last + m) 36 (omega arith), earlier, step)
+
+pub way-looked-up : (s : Shape) (near : List ℕ) (e last m : ℕ) → GoodShape s → NearTable s near → e < cells s → last ≤ 4 → m < 4
+    → getD near (64 * e + 16 + 4 * last + m) 0 ≡ way s e last m
+way-looked-up s near e last m good table below few move =
+    let place : 64 * e + 16 + 4 * last + m ≡ 64 * e + (16 + 4 * last + m) = omega arith in
+    ap (λ (k : ℕ). getD near k 0) place
+    ∙ entry-at s near e (16 + 4 * last + m) good table below (omega arith)
+    ∙ way-cell s e last m few move
 
 -- ---- one more and one less, among the integers
 
@@ -84,6 +106,9 @@ change-one-step new old = go (ltb new old)
     go true = nearer
     go false = farther
 
+pub to-one-step : (s : Shape) (b : List ℕ) (t : ℕ) → OneStep (changeTo s b t)
+to-one-step s b t = change-one-step (trayDistance s (emptyCell b) (at b t)) (trayDistance s t (at b t))
+
 -- new and old are one apart, and new + before is old + then: so the lesser of them tells the change from before to then
 told-by : (new old before then : ℕ) → OneApart new old → new + before ≡ old + then → pos then ≡ pos before +ℤ changeOf new old
 told-by new old before then apart sum = go (ltb new old) refl
@@ -93,6 +118,11 @@ told-by new old before then apart sum = go (ltb new old) refl
     go false e = one-more then before (elim apart [ inl h ↦ omega arith | inr h ↦ omega (arith, ltb-false new old e) ])
 
 -- ---- a move
+
+-- its change, by the cell that it leads to
+pub change-by-cell : (s : Shape) (b : List ℕ) (m t : ℕ) → t ≡ leadsTo s (emptyCell b) m → changeTo s b t ≡ change s b m
+unfolding change
+change-by-cell s b m t is = ap (λ (k : ℕ). changeTo s b k) is
 
 module _ (s : Shape) (b : List ℕ) (m : ℕ) (shape : GoodShape s) (board : IsBoard s b) (allowed : T (legal s b m)) where
   abbrev tray : ℕ

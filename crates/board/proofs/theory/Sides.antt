@@ -3,7 +3,7 @@
 use Prim.Native.Nat.{ℕ, zero, suc, _*_, _/_, _%_, _≤_, _<_}
 use mathlib.Core.Path.{_≡_, refl, sym, _∙_}
 use mathlib.Core.Bool.{Bool, true, false, _||_, false≢true}
-use native.Mathlib.Nat.{mul-le-mul}
+use native.Mathlib.Nat.{mul-le-mul, mul-le-mul-left}
 use native.Mathlib.Omega.{arith}
 use borrow.Author.Tests.{lt-ltb}
 use Rattle.board.specs.declared.Shape.{Shape}
@@ -48,6 +48,10 @@ cells-within g =
     let w = side-within (g .wide) in
     let h = side-within (g .high) in
     record { least = mul-le-mul (w .least) (h .least); most = mul-le-mul (w .most) (h .most) }
+
+-- a cell is less than four widths
+pub few-widths : {s : Shape} → GoodShape s → (e : ℕ) → e < cells s → e < 4 * s .width
+few-widths {s} good e inside = omega (arith, mul-le-mul-left (s .width) (side-within (good .high) .most), inside)
 
 -- a cell's column is below the width, and its row below the height
 pub cell-column : {s : Shape} → GoodShape s → (i : ℕ) → column s i < s .width

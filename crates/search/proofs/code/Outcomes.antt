@@ -60,6 +60,12 @@ ran-for {g} {moves = moves} e same ran =
       below = ran .below ∙ same;
     }
 
+-- ---- a run whose answer is told by a number
+
+pub ran-told : {g : ℕ} {o : Outcome} {table moves : List ℕ} {r told′ : Out} {table′ moves′ : List ℕ} → told′ ≡ r
+    → Ran g o table moves r table′ moves′ → Ran g o table moves told′ table′ moves′
+ran-told e ran = record { answer = e ∙ ran .answer; path = ran .path; below = ran .below }
+
 -- ---- a run that found the goal one move deeper, with the move stored in front
 
 pub ran-found : (g m : ℕ) (ms : List ℕ) (left n : ℕ) {table moves table′ : List ℕ} → g < length moves → n ≡ suc g + length ms

@@ -11,6 +11,7 @@ use Rattle.board.specs.Held.{held, Holds}
 use Rattle.board.specs.Change.{Kept}
 use Rattle.board.proofs.Laws.{kept-most}
 use Rattle.search.proofs.code.BoardSpace.{valued}
+use Rattle.search.proofs.code.Outcomes.{ran-told}
 use Rattle.search.proofs.code.Whole.{own-room, path-long, start-short, started}
 use Rattle.search.proofs.from_start.Statement.{statement}
 use Rattle.search.proofs.from_start.Tie as tie
@@ -39,17 +40,21 @@ visit-requires c κs =
     let room = own-room _ _ _ _ (start .pre .0 .0) (start .pre .1) refl in
     (start .pre .0 .0, (first, (omega arith, (made .near-table .ensures, room))))
 
+answer-of-requires : tie.Need-answer-of-requires
+answer-of-requires c κs = search needs
+
 found-length-requires : tie.Need-found-length-requires
 found-length-requires c κs = search needs
 
 put-path-requires : tie.Need-put-path-requires
 put-path-requires c κs =
     let counted = c .before .before in
-    let called = counted .before .before .before in
+    let answered = counted .before in
+    let called = answered .before .before .before in
+    let ran = ran-told (answered .answer-of .ensures) (called .visit .ensures) in
     let summed = called .before .before .before .before .before in
     let start = summed .before .before .before .before .before in
-    let short = start-short (start .args .job) _ _ _ _ _ _ _ _ _ (called .visit .ensures) (counted .found-length .ensures) in
-    let ran = called .visit .ensures in
+    let short = start-short (start .args .job) _ _ _ _ _ _ _ _ _ ran (counted .found-length .ensures) in
     let long = path-long _ _ _ _ _ (ran .answer) (counted .found-length .ensures) (ran .path) in
     (omega (arith, start .pre .0 .0 .ceiling), (long, omega (arith, start .pre .1 .path)))
 
@@ -63,10 +68,12 @@ returns : tie.Need-returns
 returns c =
     let put = c .before .before in
     let counted = put .before .before .before in
-    let called = counted .before .before .before in
+    let answered = counted .before in
+    let called = answered .before .before .before in
+    let ran = ran-told (answered .answer-of .ensures) (called .visit .ensures) in
     let stored = called .before .before .before .before in
     let f = valued _ _ _ _ _ _ (stored .before .distance .ensures) (stored .static-value .ensures) in
-    started _ _ _ _ _ _ _ _ _ _ _ _ f (called .visit .ensures) (counted .found-length .ensures) (put .put-path .ensures)
+    started _ _ _ _ _ _ _ _ _ _ _ _ f ran (counted .found-length .ensures) (put .put-path .ensures)
 
 pub from-start-spec : {M : Type 1} → statement M
 from-start-spec =
@@ -76,6 +83,7 @@ from-start-spec =
     distance-requires
     static-value-requires
     visit-requires
+    answer-of-requires
     found-length-requires
     put-path-requires
     same-length

@@ -42,7 +42,7 @@ as-distance s f i (x ∷ xs) same =
     ap (λ (j : ℕ). f j (at xs k)) up ∙ same (suc k) (omega arith) ∙ ap (λ (j : ℕ). trayDistance s j (at xs k)) (sym up)))
 
 abbrev lookedUp : List ℕ → ℕ → ℕ → ℕ
-lookedUp near i v = getD near (16 * i + v) 0
+lookedUp near i v = getD near (64 * i + v) 0
 
 total : (s : Shape) (b near : List ℕ) → GoodShape s → IsBoard s b → NearTable s near → sumFrom (lookedUp near) 0 b ≡ distance s b
 unfolding distance
@@ -81,7 +81,7 @@ module _ (s : Shape) (p : Position) (n i v : ℕ) (holds : Holds s p) (count : n
   in-board : v ≡ at (digits n (p .cells)) i
   in-board = is ∙ sym (at-digits n (p .cells) i below)
 
-  small-place : 16 * i + v < 256
+  small-place : 64 * i + v < 1024
   small-place =
       let board : v ≡ at (held s p) i = is ∙ sym (at-digits (cells s) (p .cells) i (omega arith)) in
       omega (arith, cells-within (holds .shape), holds .board .small i (omega arith))

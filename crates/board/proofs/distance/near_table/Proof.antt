@@ -1,66 +1,62 @@
--- `board::distance::near_table` meets its contract: the entries below k are right. Assumes nothing.
-use Prim.Native.Nat.{ℕ, _+_, _-_, _≤_, _<_}
-use mathlib.Core.Path.{_≡_, refl, subst, _∙_}
-use mathlib.Core.List.{List}
+-- `board::distance::near_table` meets its contract: the cells below e are put. Assumes nothing.
+use Prim.Native.Nat.{_-_}
+use mathlib.Core.Path.{_∙_}
 use native.Mathlib.Omega.{arith}
-use native.Mathlib.Nat.{lt-irrefl}
-use lib.ListN.{length, getD, set, length-set}
-use lib.Seq.{getD-set-same, getD-set-other}
-use borrow.Author.Count.{below-more}
-use Rattle.board.specs.declared.Shape.{Shape}
-use Rattle.board.specs.Distance.{nearAt}
+use Rattle.board.proofs.code.Filling.{Filled, none-filled, one-filled, all-filled}
 use Rattle.board.proofs.distance.near_table.Statement.{statement}
 use Rattle.board.proofs.distance.near_table.Tie as tie
 
-record Put (s : Shape) (near : List ℕ) (k : ℕ) : Type 0 where
-  within : k ≤ 256
-  long : length near ≡ 256
-  passed : (j : ℕ) → j < k → getD near j 0 ≡ nearAt s j
-
-one-more : (s : Shape) (near : List ℕ) (k x : ℕ) → Put s near k → k < 256 → x ≡ nearAt s k → Put s (set near k x) (k + 1)
-one-more s near k x p below is =
-    record {
-      within = omega arith;
-      long = length-set near k x ∙ p .long;
-      passed =
-          below-more (λ (j : ℕ). getD (set near k x) j 0 ≡ nearAt s j) k
-          (λ j l. getD-set-other near k j x 0 (λ e. lt-irrefl k (subst (λ (m : ℕ). m < k) e l)) ∙ p .passed j l)
-          (getD-set-same near k x 0 (omega (arith, p .long)) ∙ is);
-    }
-
 abbrev Inv-loop : tie.InvT-loop
-Inv-loop shape table near₀ k₀ near k = Put shape near k
+Inv-loop shape table n near₀ e₀ near e = Filled shape near e
 
 abbrev μ-loop : tie.MeasureT-loop
-μ-loop shape table near₀ k₀ near k = 256 - k
+μ-loop shape table n near₀ e₀ near e = n - e
 
 distances-requires : tie.Need-distances-requires Inv-loop μ-loop
 distances-requires c κs = tt
 
+cell-count-requires : tie.Need-cell-count-requires Inv-loop μ-loop
+cell-count-requires c κs = c .before .pre
+
 loop-holds : tie.Need-loop-holds Inv-loop μ-loop
-loop-holds c = record { within = omega arith; long = refl; passed = λ j l. absurd (omega arith) }
+loop-holds c = none-filled _
 
-near-entry-requires : tie.Need-near-entry-requires Inv-loop μ-loop
-near-entry-requires c κs =
-    let table-made = c .before .before .before in
-    (table-made .before .pre, (c .before .loop-test .taken, table-made .distances .ensures))
+put-near-requires : tie.Need-put-near-requires Inv-loop μ-loop
+put-near-requires c κs =
+    let test = c .before .before in
+    let counted = test .before .before in
+    let made = counted .before in (
+      made .before .pre,
+      (omega (arith, test .loop-test .taken, counted .cell-count .ensures), (made .distances .ensures, test .before .loop .inv .long)),
+    )
 
-array-write-near : tie.Need-array-write-near Inv-loop μ-loop
-array-write-near c = omega arith
+put-ways-requires : tie.Need-put-ways-requires Inv-loop μ-loop
+put-ways-requires c κs =
+    let trays = c .before in
+    let test = trays .before .before .before in
+    let counted = test .before .before in (
+      counted .before .before .pre,
+      (omega (arith, test .loop-test .taken, counted .cell-count .ensures), trays .put-near .ensures .long ∙ test .before .loop .inv .long),
+    )
 
-add-k : tie.Need-add-k Inv-loop μ-loop
-add-k c = omega arith
+add-e : tie.Need-add-e Inv-loop μ-loop
+add-e c = omega arith
 
 loop-less : tie.Need-loop-less Inv-loop μ-loop
 loop-less c = omega arith
 
 loop-again : tie.Need-loop-again Inv-loop μ-loop
-loop-again c = one-more _ _ _ _ (c .before .before .before .loop .inv) (c .before .before .loop-test .taken) (c .near-entry .ensures)
+loop-again c =
+    let trays = c .before .before in
+    let test = trays .before .before .before in
+    let counted = test .before .before in
+    one-filled _ _ _ (test .before .loop .inv) (counted .before .before .pre)
+    (omega (arith, test .loop-test .taken, counted .cell-count .ensures)) _ _ (trays .put-near .ensures) (c .put-ways .ensures)
 
 returns : tie.Need-returns Inv-loop μ-loop
 returns c =
-    let made = c .before .loop .inv in
-    record { long = made .long; entry = λ k below. made .passed k (omega arith) }
+    let filled = c .before in
+    all-filled _ _ _ (filled .loop .inv) (omega (arith, c .loop-test .left, filled .before .cell-count .ensures))
 
 pub near-table-spec : {M : Type 1} → statement M
 near-table-spec =
@@ -69,10 +65,11 @@ near-table-spec =
     Inv-loop
     μ-loop
     distances-requires
+    cell-count-requires
     loop-holds
-    near-entry-requires
-    array-write-near
-    add-k
+    put-near-requires
+    put-ways-requires
+    add-e
     loop-less
     loop-again
     returns)

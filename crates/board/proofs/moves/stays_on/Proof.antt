@@ -3,14 +3,13 @@
 use Prim.Native.Nat.{ℕ, zero, suc, _≤_, _<_, _+_, _*_, _/_}
 use mathlib.Core.Path.{_≡_, refl, sym, _∙_}
 use mathlib.Core.Bool.{Bool, true, false}
-use native.Mathlib.Nat.{mul-le-mul-left}
 use native.Mathlib.Omega.{arith}
 use lib.Dec.{leb, ltb}
 use borrow.Author.Tests.{lt-ltb, le-ltb, leb-true, leb-false, ltb-true, ltb-false}
 use Rattle.board.specs.declared.Shape.{Shape}
-use Rattle.board.specs.Shape.{cells, Side, two, three, four, GoodShape}
+use Rattle.board.specs.Shape.{cells, Side, two, three, four}
 use Rattle.board.specs.Moves.{staysOn}
-use Rattle.board.proofs.theory.Sides.{side-within, cells-within, cell-column}
+use Rattle.board.proofs.theory.Sides.{side-within, cells-within, few-widths, cell-column}
 use Rattle.board.proofs.moves.stays_on.Statement.{statement}
 use Rattle.board.proofs.moves.stays_on.Tie as tie
 
@@ -49,10 +48,6 @@ below {w} side e h = go (ltb (e + w) (w * h)) refl
 returns : tie.Need-returns
 unfolding staysOn
 returns c = rw (c .if1 .taken) (above (c .before .pre .0 .wide) (c .before .args .e))
-
--- a cell is less than four widths
-few-widths : {s : Shape} → GoodShape s → (e : ℕ) → e < cells s → e < 4 * s .width
-few-widths {s} good e inside = omega (arith, mul-le-mul-left (s .width) (side-within (good .high) .most), inside)
 
 column-of-requires : tie.Need-column-of-requires
 column-of-requires c κs =

@@ -18,11 +18,16 @@ use Rattle.board.proofs.Laws.{kept-goal, leads-on, kept-on}
 use Rattle.board.proofs.moves.after.Reads as after-reads
 use Rattle.board.proofs.moves.changed.Reads as changed-reads
 use Rattle.search.specs.declared.Choice.{Choice}
-use Rattle.search.specs.Run.{Room}
+use Rattle.search.specs.Run.{Room, answerOf}
 use Rattle.search.proofs.code.TableRows.{room-kept, row-fits}
+use Rattle.search.proofs.code.Outcomes.{ran-told}
 use Rattle.search.proofs.code.Visiting.{starts-open, none-left, at-goal, at-ceiling, works}
 use Rattle.search.proofs.code.Working.{picked-move, picked-legal, called, none-made, Working, begins}
 use Rattle.search.proofs.code.Working.{VisitMade, found-ends, spent-ends, value-less, last-ends, value-goes-on}
+use Rattle.search.proofs.answer.answer_of.Reads as answer-of-reads
+use Rattle.search.proofs.answer.told_found.Reads as told-found-reads
+use Rattle.search.proofs.answer.told_spent.Reads as told-spent-reads
+use Rattle.search.proofs.answer.told_value.Reads as told-value-reads
 use Rattle.search.proofs.row.lesser.Reads as lesser-reads
 use Rattle.search.proofs.row.stops_at.Reads as stops-at-reads
 use Rattle.search.proofs.visits.first_row.Reads as first-row-reads
@@ -67,6 +72,12 @@ module _ (t : ℕ) where
   -- what is asked and learnt at the calls that each makes
   abbrev visit-claims : visit-lts.Claims
   visit-claims = (
+    told-spent-reads.Asked,
+    told-spent-reads.Learnt,
+    told-found-reads.Asked,
+    told-found-reads.Learnt,
+    told-value-reads.Asked,
+    told-value-reads.Learnt,
     first-row-reads.Asked,
     first-row-reads.Learnt,
     work-below,
@@ -79,6 +90,8 @@ module _ (t : ℕ) where
     row-best-reads.Learnt,
     stops-at-reads.Asked,
     stops-at-reads.Learnt,
+    told-value-reads.Asked,
+    told-value-reads.Learnt,
     row-pick-reads.Asked,
     row-pick-reads.Learnt,
     lesser-reads.Asked,
@@ -89,6 +102,8 @@ module _ (t : ℕ) where
     changed-reads.Learnt,
     visit-below,
     visit.Post,
+    answer-of-reads.Asked,
+    answer-of-reads.Learnt,
   )
 
   -- ---- visit: the goal is known by distance 0
@@ -105,25 +120,40 @@ module _ (t : ℕ) where
   away : (c : Entered) → (c .args .h ≡ 0 → ⊥) → isGoal (c .args .job .shape) (held (c .args .job .shape) (c .args .p)) ≡ false
   away c e = kept-goal _ _ _ (c .pre .1 .1 .0) ∙ ne-eqb _ _ e
 
-  visit-returns : visit-lts.Need-returns visit-claims visit-at visit.Post
-  visit-returns c = none-left _ _ _ _ _ _ _ _ _ (c .if1 .taken)
+  visit-told-spent-requires : visit-lts.Need-told-spent-requires visit-claims visit-at visit.Post
+  visit-told-spent-requires c κs = tt
 
-  visit-sub-t13 : visit-lts.Need-sub-t13 visit-claims visit-at visit.Post
-  visit-sub-t13 c = omega arith
+  visit-returns : visit-lts.Need-returns visit-claims visit-at visit.Post
+  visit-returns c = ran-told (c .told-spent .ensures) (none-left _ _ _ _ _ _ _ _ _ (c .before .if1 .taken))
+
+  visit-sub-told-found : visit-lts.Need-sub-told-found visit-claims visit-at visit.Post
+  visit-sub-told-found c = omega arith
+
+  visit-told-found-requires : visit-lts.Need-told-found-requires visit-claims visit-at visit.Post
+  visit-told-found-requires c κs =
+      let pre = c .before .before .before .pre .1 in
+      omega (arith, pre .0 .ceiling, pre .1 .1 .0 .1)
 
   visit-returns-2 : visit-lts.Need-returns-2 visit-claims visit-at visit.Post
   visit-returns-2 c =
-      let first = c .before in
-      at-goal _ _ _ _ _ _ _ _ _ (first .if1 .left) (at-zero (first .before .before) (c .if2 .taken))
+      let tests = c .before in
+      let first = tests .before in
+      ran-told (c .told-found .ensures)
+      (at-goal _ _ _ _ _ _ _ _ _ (first .if1 .left) (at-zero (first .before .before) (tests .if2 .taken)))
 
-  visit-sub-t14 : visit-lts.Need-sub-t14 visit-claims visit-at visit.Post
-  visit-sub-t14 c = omega arith
+  visit-sub-told-value : visit-lts.Need-sub-told-value visit-claims visit-at visit.Post
+  visit-sub-told-value c = omega arith
+
+  visit-told-value-requires : visit-lts.Need-told-value-requires visit-claims visit-at visit.Post
+  visit-told-value-requires c κs = tt
 
   visit-returns-3 : visit-lts.Need-returns-3 visit-claims visit-at visit.Post
   visit-returns-3 c =
-      let tests = c .before .before in
+      let third = c .before in
+      let tests = third .before .before in
       let first = tests .before in
-      at-ceiling _ _ _ _ _ _ _ _ _ (first .if1 .left) (away (first .before .before) (tests .if2 .left)) (c .if3 .taken)
+      ran-told (c .told-value .ensures)
+      (at-ceiling _ _ _ _ _ _ _ _ _ (first .if1 .left) (away (first .before .before) (tests .if2 .left)) (third .if3 .taken))
 
   visit-first-row-requires : visit-lts.Need-first-row-requires visit-claims visit-at visit.Post
   visit-first-row-requires c κs =
@@ -184,13 +214,13 @@ module _ (t : ℕ) where
   Called = work-lts.After-visit work-claims work-at work.Post work-Inv-loop work-μ-loop
 
   abbrev InFound : Type 0
-  InFound = work-lts.After-known-told work-claims work-at work.Post work-Inv-loop work-μ-loop
+  InFound = work-lts.After-enum-told work-claims work-at work.Post work-Inv-loop work-μ-loop
 
   abbrev InValue : Type 0
   InValue = work-lts.After-stops-at2 work-claims work-at work.Post work-Inv-loop work-μ-loop
 
   abbrev InSpent : Type 0
-  InSpent = work-lts.After-enum-told work-claims work-at work.Post work-Inv-loop work-μ-loop
+  InSpent = work-lts.After-enum-told2 work-claims work-at work.Post work-Inv-loop work-μ-loop
 
   abbrev start-of : Head → Start
   start-of c = c .before .before .before .before .before .before
@@ -205,10 +235,10 @@ module _ (t : ℕ) where
   found-at c = c .before .before .before .before .before
 
   abbrev value-at : InValue → Called
-  value-at c = c .before .before .before .before .before .before
+  value-at c = c .before .before .before .before .before .before .before
 
   abbrev spent-at : InSpent → Called
-  spent-at c = c .before .before .before .before
+  spent-at c = c .before .before .before .before .before
 
   -- the buffers as the visit leaves them
   abbrev table-of : Called → List ℕ
@@ -229,7 +259,7 @@ module _ (t : ℕ) where
       let a = start-of head .args in
       VisitMade (a .job) (held (a .job .shape) (a .p)) (a .g) (a .bound) (a .table .now) (a .moves .now) (a .left)
       (head .loop .table) (head .loop .moves) (head .loop .left) (head .loop .least) (picked .row-pick .result)
-      (c .visit .result) (table-of c) (moves-of c)
+      (answerOf (c .visit .result)) (table-of c) (moves-of c)
   visit-made c =
       let moved = c .before .before .before .before .before in
       let picked = picked-of c in
@@ -270,13 +300,18 @@ module _ (t : ℕ) where
   work-stops-at-requires : work-lts.Need-stops-at-requires work-claims work-at work.Post work-Inv-loop work-μ-loop
   work-stops-at-requires c κs = tt
 
+  work-told-value-requires : work-lts.Need-told-value-requires work-claims work-at work.Post work-Inv-loop work-μ-loop
+  work-told-value-requires c κs = tt
+
   work-same-length : work-lts.Need-same-length work-claims work-at work.Post work-Inv-loop work-μ-loop
   work-same-length c = refl
 
   work-returns : work-lts.Need-returns work-claims work-at work.Post work-Inv-loop work-μ-loop
   work-returns c =
-      let is = ap (λ (x : Choice). x .value) (c .before .before .row-best .ensures) in
-      none-made _ _ _ _ _ _ _ _ is (not-true _ (sym (c .before .stops-at .ensures) ∙ c .if1 .taken))
+      let test = c .before in
+      let is = ap (λ (x : Choice). x .value) (test .before .before .row-best .ensures) in
+      ran-told (c .told-value .ensures)
+      (none-made _ _ _ _ _ _ _ _ is (not-true _ (sym (test .before .stops-at .ensures) ∙ test .if1 .taken)))
 
   work-loop-holds : work-lts.Need-loop-holds work-claims work-at work.Post work-Inv-loop work-μ-loop
   work-loop-holds c =
@@ -325,10 +360,13 @@ module _ (t : ℕ) where
         (pre .0, (kept, ((omega arith, omega (arith, pre .1 .1 .0)), (pre .1 .1 .1 .0, room head)))),
       )
 
+  work-answer-of-requires : work-lts.Need-answer-of-requires work-claims work-at work.Post work-Inv-loop work-μ-loop
+  work-answer-of-requires c κs = tt
+
   -- the goal
 
-  work-enum-known-length : work-lts.Need-enum-known-length work-claims work-at work.Post work-Inv-loop work-μ-loop
-  work-enum-known-length c = search needs
+  work-enum-told : work-lts.Need-enum-told work-claims work-at work.Post work-Inv-loop work-μ-loop
+  work-enum-told c = search needs
 
   work-cast-moves : work-lts.Need-cast-moves work-claims work-at work.Post work-Inv-loop work-μ-loop
   work-cast-moves c = omega (arith, move-small (picked-of (found-at c)))
@@ -344,7 +382,8 @@ module _ (t : ℕ) where
   work-returns-2 : work-lts.Need-returns-2 work-claims work-at work.Post work-Inv-loop work-μ-loop
   work-returns-2 c =
       let made = found-at c in
-      found-ends _ _ _ _ _ _ _ _ _ _ _ _ _ _ _ (visit-made made) _ _ (c .before .length .given .1) (path-place (picked-of made))
+      let goal = sym (c .before .before .answer-of .ensures) ∙ c .enum-told .given .1 in
+      ran-told goal (found-ends _ _ _ _ _ _ _ _ _ _ _ _ _ _ _ (visit-made made) _ _ goal (path-place (picked-of made)))
 
   -- a value
 
@@ -357,14 +396,22 @@ module _ (t : ℕ) where
   work-lesser-requires-2 : work-lts.Need-lesser-requires-2 work-claims work-at work.Post work-Inv-loop work-μ-loop
   work-lesser-requires-2 c κs = tt
 
+  work-told-value-requires-2 : work-lts.Need-told-value-requires-2 work-claims work-at work.Post work-Inv-loop work-μ-loop
+  work-told-value-requires-2 c κs = tt
+
   work-same-length-3 : work-lts.Need-same-length-3 work-claims work-at work.Post work-Inv-loop work-μ-loop
-  work-same-length-3 c = table-long (value-at (c .before .before))
+  work-same-length-3 c = table-long (value-at (c .before .before .before))
 
   work-returns-3 : work-lts.Need-returns-3 work-claims work-at work.Post work-Inv-loop work-μ-loop
   work-returns-3 c =
-      let test = c .before .before in
-      last-ends _ _ _ _ _ _ _ _ _ _ _ _ _ _ _ (visit-made (value-at test)) _ _ (omega arith) (test .before .before .v .given .1)
-      (not-true _ (sym (test .stops-at2 .ensures) ∙ c .before .if2 .taken)) _ (c .lesser2 .ensures)
+      let last = c .before in
+      let stop = last .before in
+      let test = stop .before in
+      let known = test .before .before in
+      ran-told (c .told-value2 .ensures)
+      (last-ends _ _ _ _ _ _ _ _ _ _ _ _ _ _ _ (visit-made (value-at test)) _ _ (omega arith)
+      (sym (known .before .before .answer-of .ensures) ∙ known .v .given .1)
+      (not-true _ (sym (test .stops-at2 .ensures) ∙ stop .if2 .taken)) _ (last .lesser2 .ensures))
 
   work-mul-table : work-lts.Need-mul-table work-claims work-at work.Post work-Inv-loop work-μ-loop
   work-mul-table c = omega (arith, place-small (picked-of (value-at (c .before))))
@@ -383,33 +430,42 @@ module _ (t : ℕ) where
   work-loop-less : work-lts.Need-loop-less work-claims work-at work.Post work-Inv-loop work-μ-loop
   work-loop-less c =
       let test = c .before in
-      value-less _ _ _ _ _ _ _ _ _ _ _ _ _ _ _ (visit-made (value-at test)) _ _ (omega arith) (test .before .before .v .given .1)
+      let known = test .before .before in
+      value-less _ _ _ _ _ _ _ _ _ _ _ _ _ _ _ (visit-made (value-at test)) _ _ (omega arith)
+      (sym (known .before .before .answer-of .ensures) ∙ known .v .given .1)
 
   work-loop-again : work-lts.Need-loop-again work-claims work-at work.Post work-Inv-loop work-μ-loop
   work-loop-again c =
       let test = c .before in
-      value-goes-on _ _ _ _ _ _ _ _ _ _ _ _ _ _ _ (visit-made (value-at test)) _ _ (omega arith) (test .before .before .v .given .1)
+      let known = test .before .before in
+      value-goes-on _ _ _ _ _ _ _ _ _ _ _ _ _ _ _ (visit-made (value-at test)) _ _ (omega arith)
+      (sym (known .before .before .answer-of .ensures) ∙ known .v .given .1)
       (not-false _ (sym (test .stops-at2 .ensures) ∙ c .if2 .left))
 
   -- no visit was left
 
-  work-enum-told : work-lts.Need-enum-told work-claims work-at work.Post work-Inv-loop work-μ-loop
-  work-enum-told c = search needs
+  work-enum-told-2 : work-lts.Need-enum-told-2 work-claims work-at work.Post work-Inv-loop work-μ-loop
+  work-enum-told-2 c = search needs
 
   work-same-length-4 : work-lts.Need-same-length-4 work-claims work-at work.Post work-Inv-loop work-μ-loop
   work-same-length-4 c = table-long (spent-at c)
 
   work-returns-4 : work-lts.Need-returns-4 work-claims work-at work.Post work-Inv-loop work-μ-loop
-  work-returns-4 c = spent-ends _ _ _ _ _ _ _ _ _ _ _ _ _ _ _ (visit-made (spent-at c)) (c .enum-told .given .1)
+  work-returns-4 c =
+      let none = sym (c .before .before .answer-of .ensures) ∙ c .enum-told2 .given .1 in
+      ran-told none (spent-ends _ _ _ _ _ _ _ _ _ _ _ _ _ _ _ (visit-made (spent-at c)) none)
 
 pub +visit+work-spec : {M : Type 1} → statement M
 +visit+work-spec =
     close μ-visit μ-work
     (λ t. visit-lts.spec (visit-claims t) (visit-at t) visit.Post
+    (visit-told-spent-requires t)
     (visit-returns t)
-    (visit-sub-t13 t)
+    (visit-sub-told-found t)
+    (visit-told-found-requires t)
     (visit-returns-2 t)
-    (visit-sub-t14 t)
+    (visit-sub-told-value t)
+    (visit-told-value-requires t)
     (visit-returns-3 t)
     (visit-first-row-requires t)
     (visit-sub-work t)
@@ -419,6 +475,7 @@ pub +visit+work-spec : {M : Type 1} → statement M
     (λ t. work-lts.spec (work-claims t) (work-at t) work.Post work-Inv-loop work-μ-loop
     (work-row-best-requires t)
     (work-stops-at-requires t)
+    (work-told-value-requires t)
     (work-same-length t)
     (work-returns t)
     (work-loop-holds t)
@@ -428,7 +485,8 @@ pub +visit+work-spec : {M : Type 1} → statement M
     (work-changed-requires t)
     (work-add-visit t)
     (work-visit-requires t)
-    (work-enum-known-length t)
+    (work-answer-of-requires t)
+    (work-enum-told t)
     (work-cast-moves t)
     (work-element-write-moves t)
     (work-same-length-2 t)
@@ -436,6 +494,7 @@ pub +visit+work-spec : {M : Type 1} → statement M
     (work-enum-known-v t)
     (work-stops-at-requires-2 t)
     (work-lesser-requires-2 t)
+    (work-told-value-requires-2 t)
     (work-same-length-3 t)
     (work-returns-3 t)
     (work-mul-table t)
@@ -444,6 +503,6 @@ pub +visit+work-spec : {M : Type 1} → statement M
     (work-slice-write-table t)
     (work-loop-less t)
     (work-loop-again t)
-    (work-enum-told t)
+    (work-enum-told-2 t)
     (work-same-length-4 t)
     (work-returns-4 t))
