@@ -2,7 +2,7 @@
 // given: no entry has a precondition but that the slices are the caller's.
 //
 // specs/Bytes.antt has the table as bytes, specs/Packed.antt the answer as one number, specs/Given.antt what an entry gives;
-// proofs/Promises.antt collects what follows for the caller.
+// proofs/Promises.antt collects what follows for the caller, proofs/ReadPromises.antt what follows of reading records.
 
 mod planning;
 mod playing;
