@@ -17,8 +17,10 @@ mod points;
 mod report;
 mod small;
 mod sums;
+mod threads;
 mod timing;
 
+use planners::LIBRARY;
 use std::path::Path;
 
 fn main() {
@@ -32,8 +34,8 @@ fn main() {
         println!("{}", counting::counted(planners[number], &counting::orders(second)));
         return;
     }
-    let (all, small) = (timing::measure(&planners), small::measure(&planners));
-    let text = report::text(&all, &small, &facts::Facts::read(Path::new(second)));
+    let (all, small, together) = (timing::measure(&planners), small::measure(&planners), threads::measure(planners[LIBRARY]));
+    let text = report::text(&all, &small, &together, &facts::Facts::read(Path::new(second)));
     for (file, content) in [("BENCH.md", &text), ("bench.svg", &picture::draw(&all))] {
         let path = Path::new(first).join(file);
         std::fs::write(&path, content).unwrap_or_else(|error| panic!("{}: {error}", path.display()));

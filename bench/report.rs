@@ -5,6 +5,7 @@ use crate::facts::Facts;
 use crate::planners::{C, EARLIER, LIBRARY, NAMES, RUST};
 use crate::small::Row;
 use crate::sums::{self, Sum};
+use crate::threads::Together;
 use crate::timing::{Timed, ROUNDS};
 use std::fmt::Write;
 
@@ -51,7 +52,7 @@ fn wrapped(page: &str) -> String {
     to
 }
 
-pub fn text(all: &[Timed], small: &[Row], facts: &Facts) -> String {
+pub fn text(all: &[Timed], small: &[Row], together: &[Together], facts: &Facts) -> String {
     let mut to = String::new();
     let Facts { processor, compiler, flags, archive, .. } = facts;
     write!(
@@ -76,6 +77,7 @@ pub fn text(all: &[Timed], small: &[Row], facts: &Facts) -> String {
     beside(&mut to, all, facts);
     growth(&mut to, all);
     small_calls(&mut to, small, facts);
+    threads(&mut to, together);
     stack(&mut to, facts);
     counts(&mut to, facts);
     boards(&mut to, all);
@@ -162,6 +164,21 @@ fn small_calls(to: &mut String, small: &[Row], facts: &Facts) {
         writeln!(to, "\nThe earlier archive is that of {}. It answers {others} of these calls otherwise.", facts.earlier)
             .unwrap();
     }
+}
+
+/// Several callers at once.
+fn threads(to: &mut String, together: &[Together]) {
+    let processors = std::thread::available_parallelism().map_or(1, |count| count.get());
+    write!(
+        to,
+        "\n## Threads\n\n\
+         Every thread plans all the boards, with buffers of its own, at once with the others, on {processors} processors. Each gets the \
+         answers, and leaves the buffers, of one thread alone. Calls a second by the clock on the wall, all threads together:\n\n"
+    )
+    .unwrap();
+    let alone = together[0].calls;
+    let row = |of: &Together| vec![of.threads.to_string(), thousands(of.calls), format!("{:.2}", of.calls / alone)];
+    table(to, &["Threads", "Calls a second", "To one thread"], together.iter().map(row));
 }
 
 fn stack(to: &mut String, facts: &Facts) {
