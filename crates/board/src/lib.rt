@@ -3,6 +3,8 @@
 // Definitions are in specs/, one file a rule; the laws that other parts rest on are in proofs/, listed in proofs/Laws.antt.
 // A board is tested once, by `faults::tested`, and from then on held in a `Position`.
 
+#![tactic(auto)]
+
 pub mod distance;
 pub mod faults;
 pub mod held;
@@ -13,28 +15,28 @@ mod table;
 ghost use Rattle.std.specs.Prelude.{◌≡◌};
 
 // A cabinet's width and height.
-#[derive(Drop)]
+#[derive(Clone, Copy)]
 pub struct Shape {
     pub width: usize,
     pub height: usize,
 }
 
 // A board by value in one number: cell i in the four bits from 4i on, and `empty` is the cell that holds 0.
-#[derive(Drop)]
+#[derive(Clone, Copy)]
 pub struct Position {
     pub cells: u64,
     pub empty: usize,
 }
 
 // A position after a legal move, and how the move changed the distance: -1 or +1.
-#[derive(Drop)]
+#[derive(Clone, Copy)]
 pub struct Moved {
     pub position: Position,
     pub change: i8,
 }
 
 // What is wrong with a board as given: the paper's 1 to 4, in its order.
-#[derive(Drop)]
+#[derive(Clone, Copy)]
 pub enum Fault {
     // 1: width or height is not 2 to 4
     BadShape,
@@ -47,7 +49,7 @@ pub enum Fault {
 }
 
 // What tests 1 to 4 say.
-#[derive(Drop)]
+#[derive(Clone, Copy)]
 pub enum Tested {
     Sound(Shape),
     Faulty(Fault),

@@ -1,6 +1,9 @@
 // Runs the board's functions on boards of each shape and prints a line for each: width, height, the fault's number and cell; and for
 // a sound board its distance, whether it is the goal (distance 0), whether it is odd, its legal moves (U, L, R, D) and the board after the
 // first of them. The file stdout has what each line must be.
+
+#![tactic(auto)]
+
 ghost use Rattle.board.specs.Shape.{GoodShape};
 ghost use Rattle.board.specs.Board.{IsBoard};
 ghost use Rattle.board.specs.Distance.{NearTable};

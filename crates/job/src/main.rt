@@ -2,6 +2,9 @@
 //
 // A text is at most 256 bytes, so 257 are asked for: a text that fills them is too long, and is refused as any other that is not of
 // the grammar.
+
+#![tactic(auto)]
+
 use jobline::answer::answer_line;
 use libc::{STDIN_FILENO, STDOUT_FILENO};
 

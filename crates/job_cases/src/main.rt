@@ -2,6 +2,9 @@
 // length (two bytes, low byte first), and each answer line goes to standard output. The file stdin ends with jobs of all nine shapes,
 // lines of tests/vectors/jobs-after-e5.txt with the answers that stand there: of each shape a plan at weight 1 over 1, a plan at another
 // weight, and a refusal 10 after one visit, 10 after more, 11, 9 and 15; of 2 by 2 both 10 are after one visit, and there is no 11.
+
+#![tactic(auto)]
+
 ghost use Rattle.std.specs.Prelude.{◌≤◌};
 
 use jobline::answer::answer_line;

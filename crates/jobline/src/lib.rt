@@ -2,6 +2,9 @@
 //
 // `read` takes the text of a job to its numbers, or refuses it; `write` puts an answer's line into a lent buffer.
 // Definitions are in specs/; that the reader reads exactly the lines of the grammar is proved in proofs/.
+
+#![tactic(auto)]
+
 pub mod answer;
 pub mod read;
 pub mod write;

@@ -8,7 +8,7 @@ ghost use Rattle.jobline.specs.Scan.{nines, head_of, ends_at, cells_at, read_job
 ghost use Rattle.jobline.specs.Held.{Counted, Answers};
 
 // The six numbers of a job before its cells.
-#[derive(Drop)]
+#[derive(Clone, Copy)]
 pub struct Numbers {
     pub width: u32,
     pub height: u32,
@@ -22,7 +22,7 @@ pub struct Numbers {
 const NINES: u32 = 999_999_999;
 
 // What a text is read to.
-#[derive(Drop)]
+#[derive(Clone, Copy)]
 pub enum Reading {
     // the numbers before the cells, and how many cells there are
     Job(Numbers, usize),
@@ -31,7 +31,7 @@ pub enum Reading {
 }
 
 // What stands at a place where a number is wanted.
-#[derive(Drop)]
+#[derive(Clone, Copy)]
 enum NumberRead {
     // its value without the sign, whether a minus stands before it, and the place behind it
     Number(u32, bool, usize),
@@ -39,7 +39,7 @@ enum NumberRead {
 }
 
 // What a text begins with.
-#[derive(Drop)]
+#[derive(Clone, Copy)]
 enum HeadRead {
     // the numbers before the cells, and the place behind them
     Sound(Numbers, usize),
@@ -47,7 +47,7 @@ enum HeadRead {
 }
 
 // How many cells a text ends with.
-#[derive(Drop)]
+#[derive(Clone, Copy)]
 enum CellCount {
     Cells(usize),
     Uncounted,

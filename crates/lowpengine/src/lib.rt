@@ -4,6 +4,8 @@
 // specs/Bytes.antt has the table as bytes, specs/Packed.antt the answer as one number, specs/Given.antt what an entry gives;
 // proofs/Promises.antt collects what follows for the caller, proofs/ReadPromises.antt what follows of reading records.
 
+#![tactic(auto)]
+
 mod planning;
 mod playing;
 mod reaching;

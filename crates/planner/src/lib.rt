@@ -3,6 +3,8 @@
 // specs/Limits.antt has tests 5 to 7 and 15, specs/Answer.antt the whole answer of a call; proofs/Promises.antt collects what is promised.
 // `call` is the call; `limits` has tests 5 to 7 and 15 for every caller; `fields` reads an answer.
 
+#![tactic(auto)]
+
 pub mod call;
 pub mod fields;
 pub mod limits;
@@ -11,14 +13,14 @@ use board::Fault;
 use search::Weight;
 
 // A plan: how many moves, and how many visits the search made.
-#[derive(Drop)]
+#[derive(Clone, Copy)]
 pub struct Plan {
     pub length: usize,
     pub visits: u32,
 }
 
 // A ceiling, a budget or a weight that is not taken: the paper's 5 to 7 and 15, in its order.
-#[derive(Drop)]
+#[derive(Clone, Copy)]
 pub enum Limit {
     // 5: ceiling below 0 or above 120
     BadCeiling,
@@ -31,21 +33,21 @@ pub enum Limit {
 }
 
 // The ceiling and the weight of a call that keeps the limits.
-#[derive(Drop)]
+#[derive(Clone, Copy)]
 pub struct Terms {
     pub ceiling: usize,
     pub weight: Weight,
 }
 
 // What tests 5 to 7 and 15 say.
-#[derive(Drop)]
+#[derive(Clone, Copy)]
 pub enum Measured {
     Within(Terms),
     Outside(Limit),
 }
 
 // Why there is no plan: the paper's 1 to 7, 15 and 8 to 11, in its order.
-#[derive(Drop)]
+#[derive(Clone, Copy)]
 pub enum Refusal {
     // 1 to 4: the shape or the board
     Board(Fault),
@@ -61,7 +63,7 @@ pub enum Refusal {
     OutOfVisits(u32),
 }
 
-#[derive(Drop)]
+#[derive(Clone, Copy)]
 pub enum Answer {
     Planned(Plan),
     Refused(Refusal),

@@ -8,6 +8,8 @@
 // answers too. Of each shape a plan at weight 1 over 1, a plan at another weight, and a refusal 10 after one visit, 10 after more, 11,
 // 9 and 15; of 2 by 2, where that file has no other, both 10 are after one visit, and there is no 11.
 
+#![tactic(auto)]
+
 mod input;
 
 ghost use Rattle.std.specs.Prelude.{◌≤◌};

@@ -3,6 +3,8 @@
 // specs/Play.antt has the whole answer and the output afterwards; proofs/Promises.antt says both in terms of the board's own legal
 // lists, and proofs/Settled.antt that nothing is left open. `play` is the call; `list` runs the moves; `answers` reads an answer.
 
+#![tactic(auto)]
+
 pub mod answers;
 mod list;
 
@@ -21,7 +23,7 @@ use board::held::{cell_count, hold};
 use board::{Fault, Position, Shape, Tested};
 
 // Why a list is not played: the paper's numbers, in its order.
-#[derive(Drop)]
+#[derive(Clone, Copy)]
 pub enum PlayRefusal {
     // 1 to 4: a fault of the width, the height or the board
     Board(Fault),
@@ -34,7 +36,7 @@ pub enum PlayRefusal {
 }
 
 // What playing a list comes to.
-#[derive(Drop)]
+#[derive(Clone, Copy)]
 pub enum Played {
     // The whole list was played: yes exactly if the end board is the goal. The end board stands in the output.
     End(bool),

@@ -14,7 +14,7 @@ use board::{Position, Shape, number_of};
 
 // The place of the first bad move, the list's length where none is bad; and the position that the moves before it lead to, with its
 // distance h.
-#[derive(Drop)]
+#[derive(Clone, Copy)]
 pub struct Ran {
     pub end: Position,
     pub h: usize,

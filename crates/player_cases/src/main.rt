@@ -2,6 +2,9 @@
 // afterwards, which were 99 before. The file stdout has what each line must be.
 //
 // Moves: 0 up, 1 left, 2 right, 3 down.
+
+#![tactic(auto)]
+
 ghost use Rattle.std.specs.Prelude.{◌≤◌};
 
 use libc::STDOUT_FILENO;

@@ -7,7 +7,7 @@ use crate::ReadRefusal;
 use crate::mark::mark_before;
 
 // What the tests of the end say.
-#[derive(Drop)]
+#[derive(Clone, Copy)]
 pub enum Ended {
     Whole,
     Faulty(ReadRefusal),

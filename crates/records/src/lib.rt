@@ -5,6 +5,8 @@
 // Back: specs/Scan.antt has the numbers as they stand in bytes, specs/Read.antt the whole answer. `read` is the call; `scan` finds the
 // numbers, `ends` looks at what stands behind them; `readings` reads an answer.
 
+#![tactic(auto)]
+
 pub mod answers;
 mod ends;
 mod groups;
@@ -19,7 +21,7 @@ use board::Fault;
 use planner::Limit;
 
 // Why a plan is not written: the paper's numbers, in the order of the tests.
-#[derive(Drop)]
+#[derive(Clone, Copy)]
 pub enum PlanRefusal {
     // 1 to 4: a fault of the width, the height or the board
     Board(Fault),
@@ -38,7 +40,7 @@ pub enum PlanRefusal {
 }
 
 // What writing a plan comes to.
-#[derive(Drop)]
+#[derive(Clone, Copy)]
 pub enum Written {
     // The record's length; the output begins with it.
     Record(usize),
@@ -47,7 +49,7 @@ pub enum Written {
 }
 
 // The numbers of a record but its cells.
-#[derive(Drop)]
+#[derive(Clone, Copy)]
 pub struct Numbers {
     pub width: u32,
     pub height: u32,
@@ -60,7 +62,7 @@ pub struct Numbers {
 }
 
 // Why bytes are not read: the paper's numbers, in the order met.
-#[derive(Drop)]
+#[derive(Clone, Copy)]
 pub enum ReadRefusal {
     // 17: the record is cut short; its length
     CutShort(usize),
@@ -79,7 +81,7 @@ pub enum ReadRefusal {
 }
 
 // What reading a record comes to.
-#[derive(Drop)]
+#[derive(Clone, Copy)]
 pub enum ReadAnswer {
     // Its numbers; the output begins with its cells and then its moves.
     Fields(Numbers),

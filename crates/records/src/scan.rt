@@ -7,7 +7,7 @@ ghost use Rattle.records.specs.Read.{Filled};
 use crate::ReadRefusal;
 
 // What is found where a number is wanted.
-#[derive(Drop)]
+#[derive(Clone, Copy)]
 pub enum Scanned {
     // its value, and the place behind it
     Number(u32, usize),
@@ -15,7 +15,7 @@ pub enum Scanned {
 }
 
 // What is found where several numbers are wanted.
-#[derive(Drop)]
+#[derive(Clone, Copy)]
 pub enum Counted {
     // the place behind them
     Next(usize),

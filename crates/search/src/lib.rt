@@ -4,6 +4,8 @@
 // to. `run` is a whole search, the one function that another part calls; `visits` has visit and work, `row` the decisions,
 // `answer` how a visit tells its end.
 
+#![tactic(auto)]
+
 mod answer;
 mod row;
 mod visits;
@@ -19,14 +21,14 @@ use board::distance::{distance, near_table};
 use board::{Position, Shape};
 
 // The weight p over q.
-#[derive(Drop)]
+#[derive(Clone, Copy)]
 pub struct Weight {
     pub p: usize,
     pub q: usize,
 }
 
 // What stays the same through one search.
-#[derive(Drop)]
+#[derive(Clone, Copy)]
 pub struct Job {
     pub shape: Shape,
     pub weight: Weight,
@@ -34,21 +36,21 @@ pub struct Job {
 }
 
 // A move and its stored value.
-#[derive(Drop)]
+#[derive(Clone, Copy)]
 pub struct Choice {
     pub step: usize,
     pub value: u16,
 }
 
 // The move to visit, and the second least value.
-#[derive(Drop)]
+#[derive(Clone, Copy)]
 pub struct Pick {
     pub step: usize,
     pub second: u16,
 }
 
 // How a visit ends.
-#[derive(Drop)]
+#[derive(Clone, Copy)]
 pub enum Out {
     // At the goal: the whole path's length, and the visits left. The path stands in the move buffer.
     Found(usize, u32),

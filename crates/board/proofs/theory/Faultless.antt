@@ -141,6 +141,7 @@ first-inside w h b f (later one (later two (here three))) =
     omega (arith, ltb-true (first_too_large (w * h) b) (w * h) three, few-cells w h one)
 first-inside w h b f (later one (later two (later three (here four)))) =
     omega (arith, ltb-true (first_repeat (w * h) b) (w * h) four, few-cells w h one)
+first-inside w h b f (later one (later two (later three (later _ x)))) = elim x [ ]
 
 pub fault-cell-inside : (w h : ℕ) (b : List ℕ) (f : Fault) → tested w h b ≡ Faulty f → fault_cell f ≤ 15
 fault-cell-inside w h b f e = first-inside w h b f (faulty_means w h b f e)

@@ -1,0 +1,139 @@
+-- `board::distance::distance` meets its contract: the loop sums what the shape's table gives for each cell, which is the tray's distance;
+-- no sum on the way is above the board's distance, so none wraps. Assumes nothing.
+use Prim.Native.Nat.{ℕ, zero, suc, ◌+◌, ◌*◌, ◌-◌, ◌≤◌, ◌<◌}
+use mathlib.Core.Path.{◌≡◌, refl, sym, ap, ap₂, ◌∙◌}
+use mathlib.Core.List.{List, [], ◌∷◌}
+use native.Mathlib.Omega.{arith}
+use native.Mathlib.Nat.{add-zero, zero-add}
+use native.Mathlib.Numerals.{add-one}
+use lib.ListN.{length, get_or, drop, drop_of_length-le}
+use lib.Seq.{drop-cons}
+use Rattle.board.specs.declared.Shape.{Shape}
+use Rattle.board.specs.declared.Position.{Position}
+use Rattle.board.specs.Shape.{cells, GoodShape}
+use Rattle.board.specs.Board.{at, IsBoard}
+use Rattle.board.specs.Distance.{tray_distance, distance_from, distance, NearTable}
+use Rattle.board.specs.Digits.{digits, digit}
+use Rattle.board.specs.Held.{held, Holds}
+use Rattle.board.proofs.theory.Sides.{cells-within}
+use Rattle.board.proofs.theory.Distances.{distance-at-most_90}
+use Rattle.board.proofs.theory.Digits.{at-digits}
+use Rattle.board.proofs.theory.Changes.{looked_up}
+use Rattle.board.proofs.distance.distance.Invariants.{sumFrom, lookedUp, Summed}
+use Rattle.board.proofs.distance.distance.Goals as goal
+
+-- f and the trays' distance agree at each cell: so do the sums
+as-distance : (s : Shape) (f : ℕ → ℕ → ℕ) (i : ℕ) (xs : List ℕ)
+    → ((k : ℕ) → k < length xs → f (i + k) (at xs k) ≡ tray_distance s (i + k) (at xs k)) → sumFrom f i xs ≡ distance_from s i xs
+unfolding sumFrom distance_from
+as-distance s f i [] same = refl
+as-distance s f i (x ∷ xs) same =
+    ap₂ ◌+◌
+    (ap (λ (j : ℕ). f j x) (sym (add-zero i)) ∙ same 0 (omega arith) ∙ ap (λ (j : ℕ). tray_distance s j x) (add-zero i))
+    (as-distance s f (suc i) xs
+    (λ k below.
+    let up : suc i + k ≡ i + suc k = omega arith in
+    ap (λ (j : ℕ). f j (at xs k)) up ∙ same (suc k) (omega arith) ∙ ap (λ (j : ℕ). tray_distance s j (at xs k)) (sym up)))
+
+total : (s : Shape) (b near : List ℕ) → GoodShape s → IsBoard s b → NearTable s near → sumFrom (lookedUp near) 0 b ≡ distance s b
+unfolding distance
+total s b near good board table =
+    as-distance s (lookedUp near) 0 b
+    (λ k below.
+    let inside : 0 + k < cells s = omega (arith, board.long) in
+    looked_up s near (0 + k) (at b k) good table inside (board.small k (omega (arith, board.long))))
+
+one_more : (f : ℕ → ℕ → ℕ) (b : List ℕ) (n sum i k : ℕ) → Summed f b n sum i → i < n → n ≡ length b → k ≡ f i (at b i)
+    → Summed f b n (sum + k) (i + 1)
+unfolding sumFrom
+one_more f b n sum i k done below long is =
+    record {
+      within = omega arith;
+      whole = rw add-one (omega (arith, done.whole, ap (sumFrom f i) (drop-cons b i 0 (omega arith))));
+    }
+
+-- with the next cell's part the sum is still at most the whole
+part : (f : ℕ → ℕ → ℕ) (b : List ℕ) (n sum i k : ℕ) → Summed f b n sum i → i < n → n ≡ length b → k ≡ f i (at b i) → sum + k ≤ sumFrom f 0 b
+part f b n sum i k done below long is = omega (arith, (one_more f b n sum i k done below long is).whole)
+
+all-summed : (f : ℕ → ℕ → ℕ) (b : List ℕ) (n sum i : ℕ) → Summed f b n sum i → n ≤ i → n ≡ length b → sum ≡ sumFrom f 0 b
+unfolding sumFrom
+all-summed f b n sum i done past long =
+    sym (add-zero sum) ∙ ap (λ (l : List ℕ). sum + sumFrom f i l) (sym (drop_of_length-le b {i = i} (omega arith))) ∙ done.whole
+
+module _ (s : Shape) (p : Position) (n i v : ℕ) (holds : Holds s p) (count : n ≡ cells s) (below : i < n)
+    (is : v ≡ digit p.cells i) where
+  -- what was read stands in the board
+  in_board : v ≡ at (digits n p.cells) i
+  in_board = is ∙ sym (at-digits n p.cells i below)
+
+  small-place : 64 * i + v < 1024
+  small-place =
+      let board : v ≡ at (held s p) i = is ∙ sym (at-digits (cells s) p.cells i (omega arith)) in
+      omega (arith, cells-within holds.shape, holds.board.small i (omega arith))
+
+-- the board's cells, as many as were counted, and what their sum is
+module _ (s : Shape) (p : Position) (n : ℕ) (near : List ℕ) (holds : Holds s p) (count : n ≡ cells s) (table : NearTable s near) where
+  all-counted : n ≡ length (digits n p.cells)
+  all-counted = count ∙ sym holds.board.long ∙ ap (λ (k : ℕ). length (digits k p.cells)) (sym count)
+
+  sum_is : sumFrom (lookedUp near) 0 (digits n p.cells) ≡ distance s (held s p)
+  sum_is =
+      ap (λ (k : ℕ). sumFrom (lookedUp near) 0 (digits k p.cells)) count
+      ∙ total s (held s p) near holds.shape holds.board table
+
+pub cell_count-n-requires : goal.cell_count-n-requires
+cell_count-n-requires c =
+    c.requires.holds.shape
+
+pub loop-i-init : goal.loop-i-init
+loop-i-init c =
+    record { within = omega arith; whole = zero-add _ }
+
+pub overflow_mul-i : goal.overflow_mul-i
+overflow_mul-i c =
+    omega (arith, c.cell_count-n.ensures, cells-within c.requires.holds.shape)
+
+pub number_at-requires : goal.number_at-requires
+number_at-requires c =
+    omega (arith, c.cell_count-n.ensures, cells-within c.requires.holds.shape)
+
+pub overflow_add-i : goal.overflow_add-i
+overflow_add-i c =
+    let below = c.loop-i-test.true in
+    omega (arith, small-place _ _ _ _ _ c.requires.holds c.cell_count-n.ensures below c.number_at.ensures)
+
+pub bounds-near-i : goal.bounds-near-i
+bounds-near-i c =
+    small-place _ _ _ _ _ c.requires.holds c.cell_count-n.ensures c.loop-i-test.true c.number_at.ensures
+
+-- what a turn adds is the part of its cell
+pub overflow_add-sum : goal.overflow_add-sum
+overflow_add-sum c =
+    let pre = c.requires in
+    let count = c.cell_count-n.ensures in
+    let read = in_board _ _ _ _ _ pre.holds count c.loop-i-test.true c.number_at.ensures in
+    omega (
+      arith,
+      sum_is _ _ _ _ pre.holds count pre.near_table,
+      part (lookedUp c.args.near.now) _ _ _ _ _ c.loop-i.invariant c.loop-i-test.true
+          (all-counted _ _ _ _ pre.holds count pre.near_table)
+          (c.number_of-sum.ensures ∙ ap (lookedUp c.args.near.now c.loop-i.i) read),
+      distance-at-most_90 _ _ pre.holds.shape pre.holds.board,
+    )
+
+pub loop-i-preserved : goal.loop-i-preserved
+loop-i-preserved c =
+    let pre = c.requires in
+    let count = c.cell_count-n.ensures in
+    let read = in_board _ _ _ _ _ pre.holds count c.loop-i-test.true c.number_at.ensures in
+    one_more (lookedUp c.args.near.now) _ _ _ _ _ c.loop-i.invariant c.loop-i-test.true
+    (all-counted _ _ _ _ pre.holds count pre.near_table)
+    (c.number_of-sum.ensures ∙ ap (lookedUp c.args.near.now c.loop-i.i) read)
+
+pub returns : goal.returns
+returns c =
+    let pre = c.requires in
+    let count = c.cell_count-n.ensures in
+    all-summed _ _ _ _ _ c.loop-i.invariant c.loop-i-test.false (all-counted _ _ _ _ pre.holds count pre.near_table)
+    ∙ sum_is _ _ _ _ pre.holds count pre.near_table

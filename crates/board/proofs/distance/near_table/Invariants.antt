@@ -1,0 +1,14 @@
+-- The invariants and measures of `distance.near_table`. Assumes nothing.
+use Prim.Native.Nat.{◌-◌}
+use mathlib.Core.Path.{◌∙◌}
+use native.Mathlib.Omega.{arith}
+use Rattle.board.proofs.code.Filling.{Filled, none_filled, one_filled, all_filled}
+use Rattle.board.proofs.distance.near_table.Given as goal
+
+abbrev pub invariant-loop-e : goal.invariant-loop-e
+invariant-loop-e l =
+    Filled l.shape l.near l.e
+
+abbrev pub decreases-loop-e : goal.decreases-loop-e
+decreases-loop-e l =
+    l.n - l.e

@@ -1,0 +1,16 @@
+-- The invariants and measures of `distance.put_ways`. Assumes nothing.
+use Prim.Native.Nat.{◌+◌, ◌*◌, ◌-◌, ◌/◌, ◌%◌, ◌≤◌}
+use native.Mathlib.Omega.{arith}
+use Rattle.board.specs.Distance.{way_at, RunPut}
+use Rattle.board.proofs.theory.Sides.{cells-within}
+use Rattle.board.proofs.theory.Ways.{way-inside}
+use Rattle.board.proofs.code.Filling.{none-put, one-put, all-put}
+use Rattle.board.proofs.distance.put_ways.Given as goal
+
+abbrev pub invariant-loop-k : goal.invariant-loop-k
+invariant-loop-k l =
+    (l.k ≤ 20) × RunPut (way_at l.shape l.e) (64 * l.e + 16) l.k l.initial.near l.near
+
+abbrev pub decreases-loop-k : goal.decreases-loop-k
+decreases-loop-k l =
+    20 - l.k

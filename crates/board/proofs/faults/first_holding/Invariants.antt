@@ -1,0 +1,22 @@
+-- The invariants and measures of `faults.first_holding`. Assumes nothing.
+use Prim.Native.Nat.{ℕ, ◌-◌}
+use mathlib.Core.List.{List}
+use mathlib.Core.Bool.{Bool}
+use native.Mathlib.Omega.{arith}
+use lib.Dec.{eqb}
+use borrow.Author.Tests.{eq-eqb, ne_eqb}
+use Rattle.board.specs.Board.{at}
+use Rattle.board.specs.Faults.{first_holding}
+use Rattle.board.proofs.code.FirstLoop.{Looking, begin, further, here, nowhere}
+use Rattle.board.proofs.faults.first_holding.Given as goal
+
+abbrev pub test : List ℕ → ℕ → ℕ → Bool
+test b x i = eqb (at b i) x
+
+abbrev pub invariant-loop-i : goal.invariant-loop-i
+invariant-loop-i l =
+    Looking (test l.board l.x) l.end l.i
+
+abbrev pub decreases-loop-i : goal.decreases-loop-i
+decreases-loop-i l =
+    l.end - l.i

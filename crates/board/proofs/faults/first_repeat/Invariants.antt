@@ -1,0 +1,15 @@
+-- The invariants and measures of `faults.first_repeat`. Assumes nothing.
+use Prim.Native.Nat.{◌-◌}
+use native.Mathlib.Omega.{arith}
+use borrow.Author.Tests.{lt-ltb, le-ltb}
+use Rattle.board.specs.Faults.{repeats, first_repeat}
+use Rattle.board.proofs.code.FirstLoop.{Looking, begin, further, here, nowhere}
+use Rattle.board.proofs.faults.first_repeat.Given as goal
+
+abbrev pub invariant-loop-cell : goal.invariant-loop-cell
+invariant-loop-cell l =
+    Looking (repeats l.board) l.n l.cell
+
+abbrev pub decreases-loop-cell : goal.decreases-loop-cell
+decreases-loop-cell l =
+    l.n - l.cell

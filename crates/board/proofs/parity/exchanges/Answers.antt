@@ -1,0 +1,65 @@
+-- `board::parity::exchanges` meets its contract: the loop follows the board's cycles (Cycles), and its measure is the turns that are
+-- left. Assumes nothing.
+use Prim.Native.Nat.{ℕ, ◌*◌, ◌<◌}
+use mathlib.Core.Path.{◌≡◌, sym, subst}
+use mathlib.Core.List.{List}
+use native.Mathlib.Omega.{arith}
+use lib.ListN.{length, take}
+use borrow.Author.Rules.{rules}
+use Rattle.board.specs.Board.{at}
+use Rattle.board.specs.Order.{FewExchanges}
+use Rattle.board.proofs.code.Cycles.{Following, turns_left, few-turns, in_hand, taken_in_hand, first-turn, ends}
+use Rattle.board.proofs.code.Cycles.{home_below, home-turn, home-less, exchange-turn, exchange-less}
+use Rattle.board.proofs.parity.exchanges.Goals as goal
+
+-- the measure falls at each turn (loop-less, loop-less-2) and starts below 2n: so the loop has fewer than 2n turns
+pub starts-below :
+    (n : ℕ) (cells : List ℕ)
+    → length (take n cells) ≡ n
+    → 0 < n
+    → turns_left (in_hand n cells 0 (at cells 0)) n 0 < 2 * n
+starts-below n cells long some = rw (taken_in_hand n cells 0 some) (few-turns (take n cells) n long some)
+
+pub cell_count-n-requires : goal.cell_count-n-requires
+cell_count-n-requires c =
+    c.requires.shape
+
+pub laid_out-cells-requires : goal.laid_out-cells-requires
+laid_out-cells-requires c =
+    c.requires
+
+pub loop-i-init : goal.loop-i-init
+loop-i-init c =
+    let holds = c.requires in
+    let count-is = c.cell_count-n.ensures in
+    first-turn _ _ _ holds.shape (rw (count-is, c.laid_out-cells.ensures.front) holds.board) (sym count-is)
+
+pub loop-i-smaller-then-home-i : goal.loop-i-smaller-then-home-i
+loop-i-smaller-then-home-i c =
+    home-less _ _ _ _ _ _ _ c.loop-i.invariant c.number_of-home.ensures (omega arith)
+
+pub loop-i-preserved-then-home-i : goal.loop-i-preserved-then-home-i
+loop-i-preserved-then-home-i c =
+    home-turn _ _ _ _ _ _ _ c.loop-i.invariant c.number_of-home.ensures (omega arith) c.if-home-i.true
+
+pub bounds-cells-home : goal.bounds-cells-home
+bounds-cells-home c =
+    omega (arith, home_below _ _ _ _ _ _ _ c.loop-i.invariant c.number_of-home.ensures)
+
+pub bounds-cells-home-in-loop-i : goal.bounds-cells-home-in-loop-i
+bounds-cells-home-in-loop-i c =
+    omega (arith, home_below _ _ _ _ _ _ _ c.loop-i.invariant c.number_of-home.ensures)
+
+pub loop-i-smaller : goal.loop-i-smaller
+loop-i-smaller c =
+    exchange-less _ _ _ _ _ _ _ c.loop-i.invariant c.number_of-home.ensures c.if-home-i.false
+
+pub loop-i-preserved : goal.loop-i-preserved
+loop-i-preserved c =
+    exchange-turn _ _ _ _ _ _ _ c.loop-i.invariant c.number_of-home.ensures c.if-home-i.false
+
+pub returns : goal.returns
+returns c =
+    let count-is = c.cell_count-n.ensures in
+    subst (λ b. FewExchanges b c.loop-i.count) (rw count-is c.laid_out-cells.ensures.front)
+    (ends _ _ _ _ _ c.loop-i.invariant c.loop-i-test.false)

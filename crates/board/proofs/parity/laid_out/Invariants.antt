@@ -1,0 +1,29 @@
+-- The invariants and measures of `parity.laid_out`. Assumes nothing.
+use Prim.Native.Nat.{ℕ, ◌+◌, ◌-◌, ◌≤◌, ◌<◌}
+use mathlib.Core.Path.{◌≡◌, refl, sym, ap, subst, ◌∙◌}
+use mathlib.Core.List.{List}
+use native.Mathlib.Omega.{arith}
+use native.Mathlib.Nat.{lt_irrefl}
+use lib.ListN.{length, set, take, length-set}
+use lib.Seq.{get_or-set_same, get_or-set_other, get_or-take, length-take-le, ext_get_or}
+use borrow.Author.Count.{below_more}
+use Rattle.board.specs.Board.{at}
+use Rattle.board.specs.Digits.{digits, digit}
+use Rattle.board.proofs.theory.Sides.{cells-within}
+use Rattle.board.proofs.theory.Digits.{length_digits, at-digits}
+use Rattle.board.proofs.parity.laid_out.Given as goal
+
+-- the entries below i are the digits of x
+pub record Copied (x n : ℕ) (l : List ℕ) (i : ℕ) : Type 0 where
+  pub few : n ≤ 16
+  pub within : i ≤ n
+  pub long : length l ≡ 16
+  pub passed : (j : ℕ) → j < i → at l j ≡ digit x j
+
+abbrev pub invariant-loop-i : goal.invariant-loop-i
+invariant-loop-i l =
+    Copied l.p.cells l.n l.cells l.i
+
+abbrev pub decreases-loop-i : goal.decreases-loop-i
+decreases-loop-i l =
+    l.n - l.i
