@@ -7,8 +7,7 @@ use native.Mathlib.Omega.{arith}
 use lib.Dec.{ltb, eqb}
 use borrow.Author.Tests.{lt-leb, le-leb, lt-ltb, le-ltb, eqb-true, eqb-false}
 use Rattle.search.specs.Row.{infinity, may_go_on}
-use Rattle.search.proofs.row.stops_at.Statement.{statement}
-use Rattle.search.proofs.row.stops_at.Tie as tie
+use Rattle.search.proofs.row.stops_at.Goals as goal
 
 above-bound : (bound least : ℕ) → bound < least → ltb bound least ≡ not (may_go_on bound least)
 unfolding may_go_on
@@ -22,11 +21,10 @@ within-bound bound least h most = rw (le-leb least bound h) (go (eqb least infin
     go true e = ap not (sym (le-ltb least infinity (omega (arith, eqb-true least infinity e))))
     go false e = ap not (sym (lt-ltb least infinity (omega (arith, eqb-false least infinity e))))
 
-returns : tie.Need-returns
-returns c = above-bound _ _ c.if1.true
+pub returns-then-bound-least : goal.returns-then-bound-least
+returns-then-bound-least c =
+    above-bound _ _ c.if-bound-least.true
 
-returns-2 : tie.Need-returns-2
-returns-2 c = within-bound _ _ c.if1.false (omega arith)
-
-pub stops-at-spec : {M : Type 1} → statement M
-stops-at-spec = tie.close (tie.spec returns returns-2)
+pub returns-else-bound-least : goal.returns-else-bound-least
+returns-else-bound-least c =
+    within-bound _ _ c.if-bound-least.false (omega arith)

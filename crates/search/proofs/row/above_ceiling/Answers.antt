@@ -8,8 +8,7 @@ use lib.Dec.{ltb}
 use borrow.Author.Rules.{rules}
 use borrow.Author.Tests.{ltb-true, ltb-false, lt-ltb, le-ltb}
 use Rattle.search.specs.Row.{above_ceiling}
-use Rattle.search.proofs.row.above_ceiling.Statement.{statement}
-use Rattle.search.proofs.row.above_ceiling.Tie as tie
+use Rattle.search.proofs.row.above_ceiling.Goals as goal
 
 left-of-ceiling : (ceiling g h : ℕ) → g ≤ ceiling → ltb (ceiling - g) h ≡ above_ceiling ceiling g h
 unfolding above_ceiling
@@ -19,11 +18,6 @@ left-of-ceiling ceiling g h made = go (ltb (ceiling - g) h) refl
     go true e = sym (lt-ltb ceiling (g + h) (omega (arith, ltb-true (ceiling - g) h e)))
     go false e = sym (le-ltb ceiling (g + h) (omega (arith, ltb-false (ceiling - g) h e)))
 
-sub-result : tie.Need-overflow-sub-result
-sub-result c = search rules
-
-returns : tie.Need-returns
-returns c = left-of-ceiling _ _ _ c.requires
-
-pub above-ceiling-spec : {M : Type 1} → statement M
-above-ceiling-spec = tie.close (tie.spec sub-result returns)
+pub returns : goal.returns
+returns c =
+    left-of-ceiling _ _ _ c.requires

@@ -20,8 +20,7 @@ use Rattle.search.specs.Row.{infinity, takes_back, first_stored, above_ceiling}
 use Rattle.search.specs.Search.{static, is_successor, first_entry}
 use Rattle.search.specs.Run.{value_at, cut_at, first_at}
 use Rattle.search.proofs.code.BoardSpace.{passes}
-use Rattle.search.proofs.visits.first_entry.Statement.{statement}
-use Rattle.search.proofs.visits.first_entry.Tie as tie
+use Rattle.search.proofs.visits.first_entry.Goals as goal
 
 module _ (S : Space) (f : ℕ → S.State → ℕ) (ceiling g : ℕ) (s : S.State) (last stored m : ℕ) where
   no-successor : S.may s m && not (takes_back last m) ≡ false → infinity ≡ first_entry S f ceiling g s last stored m
@@ -61,61 +60,75 @@ unfolding static
 first-at job b g stored h k m is leads =
     ap₂ (λ (x y : ℕ). cut_at job (suc g) y (first_stored (value_at job g x) stored (value_at job (suc g) y))) is leads
 
-way-requires : tie.Need-way-requires
-way-requires c κs =
-    let pre = c.requires in
-    (pre.0.holds.shape, (empty-below _ _ pre.0.holds, ((omega (arith, pre.1.0.0), pre.1.0.1), pre.1.1.1)))
-
-returns : tie.Need-returns
-returns c =
-    let led = c.before in
-    let holds = led.before.requires.0.holds in
-    no-successor _ _ _ _ _ _ _ _
-    (none-by-cell _ _ _ _ _ holds.empty (way-none _ _ _ _ holds.shape _ led.way.ensures c.if1.true))
-
-change-to-requires : tie.Need-change-to-requires
-change-to-requires c κs =
-    let led = c.before in
-    let pre = led.before.requires in
-    let a = led.before.args in
-    let inside = way-inside a.job.shape a.p.empty a.last a.m pre.0.holds.shape (empty-below _ _ pre.0.holds) in
-    (pre.0.holds, (omega (arith, inside, led.way.ensures), pre.1.1.1))
-
 -- one step nearer
-
-returns-2 : tie.Need-returns-2
-returns-2 c =
-    let changed = c.before in
-    let test = changed.before in
-    let led = test.before in
-    let start = led.before in
-    let a = start.args in
-    let empty = start.requires.0.holds.empty in
-    let leads = way_leads _ _ _ _ _ led.way.ensures test.if1.false in
-    let allowed = legal-by-cell _ _ _ a.last _ empty leads.stays in
-    let is = changed.change-to.ensures ∙ change_by_cell _ _ a.m _ (to-by-cell _ _ _ a.last _ empty _ leads.to) in
-    let step = leads_nearer _ _ _ start.requires.0 _ (passes allowed) _ is c.if2.true in
-    start.requires.1.1.0.0
-    ∙ first-at a.job _ _ _ _ _ a.m start.requires.0.full (omega arith)
-    ∙ successor _ _ _ _ _ _ _ _ allowed leads.on
 
 -- one step farther
 
-returns-3 : tie.Need-returns-3
-returns-3 c =
-    let changed = c.before in
-    let test = changed.before in
-    let led = test.before in
-    let start = led.before in
-    let a = start.args in
-    let empty = start.requires.0.holds.empty in
-    let leads = way_leads _ _ _ _ _ led.way.ensures test.if1.false in
+pub way-t-requires-clause-good_shape : goal.way-t-requires-clause-good_shape
+way-t-requires-clause-good_shape c =
+    let pre = c.requires in
+    pre.kept.holds.shape
+
+pub way-t-requires-clause-e_bound : goal.way-t-requires-clause-e_bound
+way-t-requires-clause-e_bound c =
+    let pre = c.requires in
+    empty-below _ _ pre.kept.holds
+
+pub way-t-requires-clause-last_bound : goal.way-t-requires-clause-last_bound
+way-t-requires-clause-last_bound c =
+    let pre = c.requires in
+    (omega (arith, pre.last_bound.0), pre.last_bound.1)
+
+pub way-t-requires-clause-near_table : goal.way-t-requires-clause-near_table
+way-t-requires-clause-near_table c =
+    let pre = c.requires in
+    pre.near_table
+
+pub returns-then-t-e : goal.returns-then-t-e
+returns-then-t-e c =
+    let holds = c.requires.kept.holds in
+    no-successor _ _ _ _ _ _ _ _
+    (none-by-cell _ _ _ _ _ holds.empty (way-none _ _ _ _ holds.shape _ c.way-t.ensures c.if-t-e.true))
+
+pub change_to-requires-clause-holds : goal.change_to-requires-clause-holds
+change_to-requires-clause-holds c =
+    let pre = c.requires in
+    let a = c.args in
+    pre.kept.holds
+
+pub change_to-requires-clause-t_bound : goal.change_to-requires-clause-t_bound
+change_to-requires-clause-t_bound c =
+    let pre = c.requires in
+    let a = c.args in
+    let inside = way-inside a.job.shape a.p.empty a.last a.m pre.kept.holds.shape (empty-below _ _ pre.kept.holds) in
+    omega (arith, inside, c.way-t.ensures)
+
+pub change_to-requires-clause-near_table : goal.change_to-requires-clause-near_table
+change_to-requires-clause-near_table c =
+    let pre = c.requires in
+    let a = c.args in
+    pre.near_table
+
+pub returns-then-change_to-lt0 : goal.returns-then-change_to-lt0
+returns-then-change_to-lt0 c =
+    let a = c.args in
+    let empty = c.requires.kept.holds.empty in
+    let leads = way_leads _ _ _ _ _ c.way-t.ensures c.if-t-e.false in
     let allowed = legal-by-cell _ _ _ a.last _ empty leads.stays in
-    let is = changed.change-to.ensures ∙ change_by_cell _ _ a.m _ (to-by-cell _ _ _ a.last _ empty _ leads.to) in
-    let step = leads_farther _ _ _ start.requires.0 _ (passes allowed) _ is c.if2.false in
-    start.requires.1.1.0.1
-    ∙ first-at a.job _ _ _ _ _ a.m start.requires.0.full (omega arith)
+    let is = c.change_to.ensures ∙ change_by_cell _ _ a.m _ (to-by-cell _ _ _ a.last _ empty _ leads.to) in
+    let step = leads_nearer _ _ _ c.requires.kept _ (passes allowed) _ is c.if-change_to-lt0.true in
+    c.requires.closer_value.0
+    ∙ first-at a.job _ _ _ _ _ a.m c.requires.kept.full (omega arith)
     ∙ successor _ _ _ _ _ _ _ _ allowed leads.on
 
-pub first-entry-spec : {M : Type 1} → statement M
-first-entry-spec = tie.close (tie.spec way-requires returns change-to-requires returns-2 returns-3)
+pub returns : goal.returns
+returns c =
+    let a = c.args in
+    let empty = c.requires.kept.holds.empty in
+    let leads = way_leads _ _ _ _ _ c.way-t.ensures c.if-t-e.false in
+    let allowed = legal-by-cell _ _ _ a.last _ empty leads.stays in
+    let is = c.change_to.ensures ∙ change_by_cell _ _ a.m _ (to-by-cell _ _ _ a.last _ empty _ leads.to) in
+    let step = leads_farther _ _ _ c.requires.kept _ (passes allowed) _ is c.if-change_to-lt0.false in
+    c.requires.closer_value.1
+    ∙ first-at a.job _ _ _ _ _ a.m c.requires.kept.full (omega arith)
+    ∙ successor _ _ _ _ _ _ _ _ allowed leads.on

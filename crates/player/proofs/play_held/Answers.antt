@@ -20,8 +20,8 @@ use Rattle.player.specs.declared.Played.TheVariants.{End, Refused}
 use Rattle.player.specs.Play.{bad_move, comes_to, answer_on, out_after, PlayedOn}
 use Rattle.player.specs.Run.{RanAs}
 use Rattle.player.proofs.theory.FirstBad.{first-bad-within}
-use Rattle.player.proofs.play_held.Statement.{statement}
-use Rattle.player.proofs.play_held.Tie as tie
+use Rattle.player.proofs.play_held.Goals as goal
+use Rattle.player.proofs.play_held.Goals.{then-bad-moves, else-bad-moves}
 
 module _
     (s : Shape) (b moves found out : List ℕ) (ran : Ran) (said : Played)
@@ -64,27 +64,17 @@ module _
       refused : (end : List ℕ) → comes_to s end moves ran.bad ≡ Refused (bad_move (get_or moves ran.bad 0) ran.bad)
       refused end = rw (lt-ltb ran.bad (length moves) inside)
 
-run-requires : tie.Need-run-requires
-run-requires c κs = search rules
+pub come_to-requires : goal.come_to-requires
+come_to-requires c =
+    c.run-ran.ensures.kept
 
-put-requires : tie.Need-put-requires
-put-requires c κs = search rules
-
-come-to-requires : tie.Need-come-to-requires
-come-to-requires c κs = c.before.before.run.ensures.kept
-
-same_length : tie.Need-same-length
-same_length c = ⊎_elim (λ w. ap length w.5 ∙ w.2.kept.1.1.0) (λ w. ap length w.1) c.before.if1.branch
-
-returns : tie.Need-returns
+pub returns : goal.returns
 returns c =
-    let ran = c.before.before.before in
-    let start = ran.before.before.before in
-    let runs = ran.run.ensures in
-    ⊎_elim
-    (λ w. all-good _ _ _ _ _ _ _ runs start.requires.1.1 c.come-to.ensures w.0.taken (w.5 ∙ w.2.ensures))
-    (λ w. one-bad _ _ _ _ _ _ _ runs start.requires.1.1 c.come-to.ensures w.0.left w.1)
-    c.before.if1.branch
-
-pub play-held-spec : {M : Type 1} → statement M
-play-held-spec = tie.close (tie.spec run-requires put-requires come-to-requires same_length returns)
+    let runs = c.run-ran.ensures in
+    elim c.if-bad-moves.branch [
+      | then-bad-moves w ↦
+        all-good _ _ _ _ _ _ _ runs c.requires.shape_in_bounds c.come_to.ensures w.if-bad-moves.true
+        (w.out-is ∙ w.put.ensures)
+      | else-bad-moves w ↦
+        one-bad _ _ _ _ _ _ _ runs c.requires.shape_in_bounds c.come_to.ensures w.if-bad-moves.false w.out-is
+    ]

@@ -14,8 +14,7 @@ use Rattle.player.specs.declared.Played.{Played}
 use Rattle.player.specs.declared.Played.TheVariants.{Refused}
 use Rattle.player.specs.declared.PlayRefusal.TheVariants.{Board}
 use Rattle.player.specs.Play.{answer_after, out_after, PlayedAs, PlayedOn}
-use Rattle.player.proofs.play.Statement.{statement}
-use Rattle.player.proofs.play.Tie as tie
+use Rattle.player.proofs.play.Goals as goal
 
 faulty :
     (w h : ℕ) (b moves found : List ℕ) (fault : Fault)
@@ -35,41 +34,20 @@ sound w h b moves found s r out e on = record {
   leaves = on.leaves ∙ ap (λ t. out_after r (end_board t b moves) found) (sound_means w h b s e).0;
 }
 
-tested-requires : tie.Need-tested-requires
-tested-requires c κs = search rules
+pub play_sound-requires-clause-good_shape : goal.play_sound-requires-clause-good_shape
+play_sound-requires-clause-good_shape c =
+    let means = sound_means _ _ _ _ (sym c.tested.ensures ∙ c.in-Sound.is) in
+    means.1
 
-enum-known-fault : tie.Need-enum-known-fault
-enum-known-fault c = search rules
+pub play_sound-requires-clause-board : goal.play_sound-requires-clause-board
+play_sound-requires-clause-board c =
+    let means = sound_means _ _ _ _ (sym c.tested.ensures ∙ c.in-Sound.is) in
+    means.2
 
-enum-known-shape : tie.Need-enum-known-shape
-enum-known-shape c = search rules
+pub returns-in-Faulty : goal.returns-in-Faulty
+returns-in-Faulty c =
+    faulty _ _ _ _ _ _ (sym c.tested.ensures ∙ c.in-Faulty.is)
 
-play-sound-requires : tie.Need-play-sound-requires
-play-sound-requires c κs =
-    let at-shape = c.before.before in
-    let means = sound_means _ _ _ _ (sym at-shape.before.before.tested.ensures ∙ at-shape.shape.given.1) in
-    (means.1, means.2)
-
-returns : tie.Need-returns
-returns c = faulty _ _ _ _ _ _ (sym c.before.before.before.tested.ensures ∙ c.before.fault.given.1)
-
-same_length : tie.Need-same-length
-same_length c = search rules
-
-returns-2 : tie.Need-returns-2
-returns-2 c =
-    let at_call = c.before.before in
-    let at-shape = at_call.before.before.before in
-    sound _ _ _ _ _ _ _ _ (sym at-shape.before.before.tested.ensures ∙ at-shape.shape.given.1) at_call.play-sound.ensures
-
-pub play-spec : {M : Type 1} → statement M
-play-spec =
-    tie.close
-    (tie.spec
-    tested-requires
-    enum-known-fault
-    enum-known-shape
-    play-sound-requires
-    returns
-    same_length
-    returns-2)
+pub returns-in-Sound : goal.returns-in-Sound
+returns-in-Sound c =
+    sound _ _ _ _ _ _ _ _ (sym c.tested.ensures ∙ c.in-Sound.is) c.play_sound.ensures

@@ -1,0 +1,30 @@
+-- The invariants and measures of `list.put`. Assumes nothing.
+use Prim.Native.Nat.{ℕ, suc, ◌+◌, ◌-◌, ◌≤◌, ◌<◌}
+use mathlib.Core.Path.{◌≡◌, refl, sym, ap, ◌∙◌}
+use mathlib.Core.List.{List, ◌++◌}
+use native.Mathlib.Omega.{arith}
+use native.Mathlib.Numerals.{add-one}
+use lib.ListN.{length, take, drop, set, get_or, length-append, length-take, length-drop}
+use lib.Seq.{take-suc, take_all, drop-cons, append_snoc, set_at, length-take-le}
+use Rattle.board.specs.Digits.{digits}
+use Rattle.board.proofs.Laws.{cells-within, length_digits, at-digits}
+use Rattle.player.proofs.list.put.Given as goal
+
+-- the first i of the cells l, in front of what was found after them
+abbrev pub puts : List ℕ → List ℕ → ℕ → List ℕ
+puts l found i = take i l ++ drop i found
+
+-- the loop at cell i
+pub record Putting (l found out : List ℕ) (n i : ℕ) : Type 0 where
+  pub within : i ≤ n
+  pub cells-last : n ≤ length l
+  pub room : n ≤ length found
+  pub same : out ≡ puts l found i
+
+abbrev pub invariant-loop-i : goal.invariant-loop-i
+invariant-loop-i l =
+    Putting (digits l.n l.p.cells) l.initial.out l.out l.n l.i
+
+abbrev pub decreases-loop-i : goal.decreases-loop-i
+decreases-loop-i l =
+    l.n - l.i

@@ -1,0 +1,27 @@
+-- `search::run` meets its contract: the visit to the start on the lent part of the table, and that part cleared. Assumes nothing.
+use borrow.Author.Rules.{rules}
+use mathlib.Core.Path.{refl, sym}
+use lib.Seq.{length-take-le}
+use Rattle.search.proofs.code.Whole.{part_room, whole_part, searched-whole}
+use Rattle.search.proofs.run.Goals as goal
+
+pub slice_bounds-from_start-end-2 : goal.slice_bounds-from_start-end-2
+slice_bounds-from_start-end-2 c =
+    sym (length-take-le _ _ c.requires.room.rows)
+
+pub from_start-out-requires-clause-small_job : goal.from_start-out-requires-clause-small_job
+from_start-out-requires-clause-small_job c =
+    c.requires.small_job
+
+pub from_start-out-requires-clause-room : goal.from_start-out-requires-clause-room
+from_start-out-requires-clause-room c =
+    part_room _ _ _ _ refl c.requires.room
+
+pub slice_bounds-clear-end-2 : goal.slice_bounds-clear-end-2
+slice_bounds-clear-end-2 c =
+    whole_part _ _ c.from_start-out.new.1.1.1.1.0 c.requires.room.rows c.from_start-out.auto.1.1.1.1.0
+
+pub returns : goal.returns
+returns c =
+    searched-whole _ _ _ _ _ _ c.from_start-out.new.1.1.1.1.0 _ _ c.requires.room.rows c.from_start-out.ensures
+    c.from_start-out.auto.1.1.1.1.0 c.clear.ensures
