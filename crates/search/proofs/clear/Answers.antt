@@ -29,10 +29,6 @@ pub loop-i-init : goal.loop-i-init
 loop-i-init c =
     record { within = omega arith; long = refl; zeros = fill_none _ 0 }
 
-pub offset_bounds-table-i : goal.offset_bounds-table-i
-offset_bounds-table-i c =
-    omega (arith, c.well-formed.0.1)
-
 pub loop-i-smaller : goal.loop-i-smaller
 loop-i-smaller c =
     simp length-set (omega arith)

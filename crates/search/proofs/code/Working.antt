@@ -125,6 +125,23 @@ module _ (job : Job) (b : List ℕ) (g bound : ℕ) (table₀ moves₀ : List �
     pub ran : Ran (suc g) (visit_on job b g bound (row_at table g) left) table moves o table' moves'
     pub rows : length table' ≡ length table
 
+  -- the code's call, at the loop's head, is such a visit
+  pub as_made : {table moves : List ℕ} {left least : ℕ} {x : Pick} {next : List ℕ} {down : ℕ} {o : Out} {table' moves' : List ℕ}
+      → Working table moves left least
+      → Picks (row_at table g) x
+      → next ≡ (boards job.shape).makes b x.step
+      → down ≡ min bound x.second
+      → Ran (g + 1) (visited job next x.step (g + 1) least down left) table moves o table' moves'
+      → length table' ≡ length table
+      → VisitMade table moves left least x o table' moves'
+  as_made {table = table} {left = left} {least = least} {x = x} {next = next} {down = down} working picks makes handed ran rows =
+      record {
+        working = working;
+        picks = picks;
+        ran = called (row_at table g) x picks job b next g bound least down left makes working.is_least handed ran;
+        rows = rows;
+      }
+
   module _ (table moves : List ℕ) (left least : ℕ) (x : Pick) (o : Out) (table' moves' : List ℕ)
       (made : VisitMade table moves left least x o table' moves') where
     abbrev row : List ℕ

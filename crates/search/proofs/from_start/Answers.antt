@@ -33,6 +33,7 @@ visit-back-requires-clause-small_job c =
 
 pub visit-back-requires-clause-kept : goal.visit-back-requires-clause-kept
 visit-back-requires-clause-kept c =
+    let first = kept _ _ _ c.requires.small_job.1 c.distance-h.ensures in
     first
 
 pub visit-back-requires-clause-near_table : goal.visit-back-requires-clause-near_table
@@ -47,11 +48,14 @@ visit-back-requires-clause-room c =
 pub put_path-requires-clause-n_bound : goal.put_path-requires-clause-n_bound
 put_path-requires-clause-n_bound c =
     let ran = ran-told c.answer_of-out.ensures c.visit-back.ensures in
+    let short = start_short c.args.job _ _ _ _ _ _ _ _ _ ran c.found_length.ensures in
+    let long = path-long _ _ _ _ _ ran.answer c.found_length.ensures ran.path in
     omega (arith, c.requires.small_job.0.ceiling)
 
 pub put_path-requires-clause-n_in_bounds : goal.put_path-requires-clause-n_in_bounds
 put_path-requires-clause-n_in_bounds c =
     let ran = ran-told c.answer_of-out.ensures c.visit-back.ensures in
+    let short = start_short c.args.job _ _ _ _ _ _ _ _ _ ran c.found_length.ensures in
     let long = path-long _ _ _ _ _ ran.answer c.found_length.ensures ran.path in
     (long, omega (arith, c.requires.room.path))
 

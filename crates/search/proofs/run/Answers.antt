@@ -19,9 +19,9 @@ from_start-out-requires-clause-room c =
 
 pub slice_bounds-clear-end-2 : goal.slice_bounds-clear-end-2
 slice_bounds-clear-end-2 c =
-    whole_part _ _ c.from_start-out.new.1.1.1.1.0 c.requires.room.rows c.from_start-out.auto.1.1.1.1.0
+    whole_part _ _ c.from_start-out.new.table c.requires.room.rows c.from_start-out.auto.table
 
 pub returns : goal.returns
 returns c =
-    searched-whole _ _ _ _ _ _ c.from_start-out.new.1.1.1.1.0 _ _ c.requires.room.rows c.from_start-out.ensures
-    c.from_start-out.auto.1.1.1.1.0 c.clear.ensures
+    searched-whole _ _ _ _ _ _ c.from_start-out.new.table _ _ c.requires.room.rows c.from_start-out.ensures
+    c.from_start-out.auto.table c.clear.ensures
