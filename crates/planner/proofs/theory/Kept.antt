@@ -345,6 +345,7 @@ odd-board_means c e ds v =
     odd : {r : Refusal} → FirstToHold (last_tests c) r → refusal_number r ≡ 9 → is_odd (shape_of c) c.board ≡ true
     odd (here eight) is = absurd (omega arith)
     odd (later eight (here nine)) is = nine
+    odd {r = r} (later eight (later _ x13)) is = elim x13 [ ]
 
     go : {r : Refusal} → Refusing c r → refusal_number r ≡ 9 → ⊥
     go (by_board {f} first) is = omega (arith, fault-number f)

@@ -41,6 +41,7 @@ not-lowest-is c = (given, gives)
     limits sound (later five (later six (here seven))) is = absurd (omega arith)
     limits sound (later five (later six (later seven (here fifteen)))) is =
         record { board = sound; ceiling = five; budget = six; weight = seven; shared = (shares_exactly c.p c.q).0 fifteen }
+    limits {l = l} sound (later five (later six (later seven (later _ x21)))) is = elim x21 [ ]
 
     go : {r : Refusal} → Refusing c r → refusal_number r ≡ 15 → PastSeven c
     go (by_board {f} first) is = absurd (omega (arith, fault-number f))

@@ -34,6 +34,7 @@ module _ (c : Call) where
   unfolding last_tests
   by_nine e sound kept (here eight) = let z : ◌≡◌ {A = ℕ} 0 1 = cc in absurd (omega arith)
   by_nine e sound kept (later eight (here nine)) = record { board_ok = sound; limits_ok = kept; buffers_ok = eight; odd = nine }
+  by_nine {r = r} e sound kept (later eight (later _ x12)) = elim x12 [ ]
 
   by_refusal : {r : Refusal} → r ≡ OddBoard → Refusing c r → OddAlone c
   by_refusal e (by_board first) = let z : ◌≡◌ {A = ℕ} 0 1 = cc in absurd (omega arith)

@@ -100,6 +100,7 @@ pub last-number : (c : Call) {r : Refusal} → FirstToHold (last_tests c) r → 
 unfolding last_tests
 last-number c (here eight) = omega arith
 last-number c (later eight (here nine)) = omega arith
+last-number c {r = r} (later eight (later _ x12)) = elim x12 [ ]
 
 -- what a test gives is one of 1 to 9, or 15
 pub early_number : (c : Call) {r : Refusal} → Refusing c r → TestNumber (refusal_number r)

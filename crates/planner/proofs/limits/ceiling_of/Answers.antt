@@ -10,8 +10,7 @@ use mir.Val.{Fits}
 use mir.ValLaws.{to_z-of_z}
 use borrow.Author.Tests.{ltb-false}
 use Rattle.planner.specs.Limits.{bad_ceiling, ceiling_of}
-use Rattle.planner.proofs.limits.ceiling_of.Statement.{statement}
-use Rattle.planner.proofs.limits.ceiling_of.Tie as tie
+use Rattle.planner.proofs.limits.ceiling_of.Goals as goal
 
 casts : (z : ℤ) → bad_ceiling z ≡ false → T (non_neg z) × Fits w64 (nat_abs z)
 unfolding bad_ceiling
@@ -23,13 +22,11 @@ unfolding bad_ceiling ceiling_of
 number_of (pos n) e = refl
 number_of (negsuc n) e = absurd (true≢false e)
 
-cast-result : tie.Need-overflow-cast-result
-cast-result c =
+pub overflow_cast-result : goal.overflow_cast-result
+overflow_cast-result c =
     subst (λ (z : ℤ). T (non_neg z) × Fits w64 (nat_abs z)) (sym (to_z-of_z w32 c.args.ceiling c.ranges.ceiling))
     (casts c.args.ceiling c.requires)
 
-returns : tie.Need-returns
-returns c = ap nat_abs (to_z-of_z w32 c.args.ceiling c.ranges.ceiling) ∙ number_of c.args.ceiling c.requires
-
-pub ceiling-of-spec : {M : Type 1} → statement M
-ceiling-of-spec = tie.close (tie.spec cast-result returns)
+pub returns : goal.returns
+returns c =
+    ap nat_abs (to_z-of_z w32 c.args.ceiling c.ranges.ceiling) ∙ number_of c.args.ceiling c.requires

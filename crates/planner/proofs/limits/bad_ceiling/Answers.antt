@@ -10,8 +10,7 @@ use mir.Syntax.{w32}
 use mir.ValLaws.{to_z-of_z}
 use borrow.Author.Tests.{ltb-true}
 use Rattle.planner.specs.Limits.{bad_ceiling}
-use Rattle.planner.proofs.limits.bad_ceiling.Statement.{statement}
-use Rattle.planner.proofs.limits.bad_ceiling.Tie as tie
+use Rattle.planner.proofs.limits.bad_ceiling.Goals as goal
 
 below_zero : (z y : ℤ) → y ≡ z → lt_z y (pos 0) ≡ true → lt_z y (pos 0) ≡ bad_ceiling z
 unfolding bad_ceiling
@@ -29,11 +28,10 @@ not-below-zero z y same = subst (λ (x : ℤ). lt_z x (pos 0) ≡ false → lt_z
     of (pos n) e = refl
     of (negsuc n) e = absurd (true≢false e)
 
-returns : tie.Need-returns
-returns c = below_zero _ _ (to_z-of_z w32 _ c.before.ranges.ceiling) c.if1.true
+pub returns-then-ceiling-lt0 : goal.returns-then-ceiling-lt0
+returns-then-ceiling-lt0 c =
+    below_zero _ _ (to_z-of_z w32 _ c.ranges.ceiling) c.if-ceiling-lt0.true
 
-returns-2 : tie.Need-returns-2
-returns-2 c = not-below-zero _ _ (to_z-of_z w32 _ c.before.ranges.ceiling) c.if1.false
-
-pub bad-ceiling-spec : {M : Type 1} → statement M
-bad-ceiling-spec = tie.close (tie.spec returns returns-2)
+pub returns-else-ceiling-lt0 : goal.returns-else-ceiling-lt0
+returns-else-ceiling-lt0 c =
+    not-below-zero _ _ (to_z-of_z w32 _ c.ranges.ceiling) c.if-ceiling-lt0.false

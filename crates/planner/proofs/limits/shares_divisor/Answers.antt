@@ -1,0 +1,37 @@
+-- `planner::limits::shares_divisor` meets its contract: the loop looks for a number from 2 on that divides both. Assumes nothing.
+use Prim.Native.Nat.{ℕ, suc, ◌-◌}
+use native.Mathlib.Omega.{arith}
+use borrow.Author.Rules.{rules}
+use Rattle.planner.proofs.theory.Passing.{weight-passes}
+use Rattle.planner.proofs.code.Testing.{told}
+use Rattle.planner.proofs.code.Dividing.{Sought, begin, further, found, nowhere}
+use Rattle.planner.proofs.limits.shares_divisor.Goals as goal
+
+pub loop-d-init : goal.loop-d-init
+loop-d-init c =
+    begin _ _
+
+pub divides_both-requires : goal.divides_both-requires
+divides_both-requires c =
+    omega (arith, c.loop-d.invariant.low)
+
+pub returns-then-divides_both : goal.returns-then-divides_both
+returns-then-divides_both c =
+    found _ _ _ c.loop-d.invariant (told c.divides_both.ensures c.if-divides_both.true)
+
+pub overflow_add-d : goal.overflow_add-d
+overflow_add-d c =
+    let most = weight-passes _ _ c.requires in
+    record { fits = omega (arith, c.loop-d-test.true, most.order, most.most) }
+
+pub loop-d-smaller : goal.loop-d-smaller
+loop-d-smaller c =
+    omega (arith, c.loop-d-test.true)
+
+pub loop-d-preserved : goal.loop-d-preserved
+loop-d-preserved c =
+    further _ _ _ c.loop-d.invariant (told c.divides_both.ensures c.if-divides_both.false)
+
+pub returns : goal.returns
+returns c =
+    nowhere _ _ _ c.loop-d.invariant (weight-passes _ _ c.requires).some (omega (arith, c.loop-d-test.false))
