@@ -1,0 +1,27 @@
+-- The invariants and measures of `read.value_between`. Assumes nothing.
+use Prim.Native.Nat.{ℕ, ◌+◌, ◌*◌, ◌-◌, ◌^◌, ◌≤◌, ◌<◌, suc}
+use native.Mathlib.Omega.{arith}
+use native.Mathlib.Numerals.{add-one}
+use native.Mathlib.Nat.{sub_self}
+use mathlib.Core.Path.{◌≡◌, refl}
+use mathlib.Core.List.{List}
+use lib.ListN.{length, get_or}
+use lib.Seq.{slice, slice-cons, slice_empty}
+use Rattle.jobline.specs.Numeral.{Digit, Digits, value_from, value_of}
+use Rattle.jobline.proofs.theory.Runs.{value_step, value_bound}
+use Rattle.jobline.proofs.read.value_between.Given as goal
+
+pub record Ahead (text : List ℕ) (from to value i : ℕ) : Type 0 where
+  pub after : from ≤ i
+  pub inside : i ≤ to
+  pub small : value < 10 ^ (i - from)
+  pub digits : Digits (slice i to text)
+  pub whole : value_from value (slice i to text) ≡ value_of (slice from to text)
+
+abbrev pub invariant-loop-i : goal.invariant-loop-i
+invariant-loop-i l =
+    Ahead l.text l.from l.to l.value l.i
+
+abbrev pub decreases-loop-i : goal.decreases-loop-i
+decreases-loop-i l =
+    l.to - l.i

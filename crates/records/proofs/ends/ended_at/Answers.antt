@@ -1,0 +1,27 @@
+-- `ends::ended_at` meets its contract: 17, 20 and 19 in their order. Assumes nothing.
+use borrow.Author.Tests.{lt-ltb, le-ltb}
+use Rattle.board.specs.Tests.{first_refusal}
+use Rattle.records.specs.Read.{end_tests}
+use Rattle.records.proofs.code.Reading.{end_whole, end_wrong}
+use borrow.Author.Rules.{rules}
+use Rattle.records.proofs.ends.ended_at.Goals as goal
+
+pub returns-then-bytes-end : goal.returns-then-bytes-end
+unfolding end_tests first_refusal
+returns-then-bytes-end c =
+    rw (lt-ltb _ _ c.if-bytes-end.true)
+
+pub returns-then-end-bytes : goal.returns-then-end-bytes
+unfolding end_tests first_refusal
+returns-then-end-bytes c =
+    rw (le-ltb _ _ c.if-bytes-end.false, lt-ltb _ _ c.if-end-bytes.true)
+
+pub returns-then-mark_stands : goal.returns-then-mark_stands
+returns-then-mark_stands c =
+    end_whole _ _ _ _ c.if-bytes-end.false c.if-end-bytes.false c.mark_before-mark.ensures
+    c.mark_stands.ensures c.if-mark_stands.true
+
+pub returns : goal.returns
+returns c =
+    end_wrong _ _ _ _ c.if-bytes-end.false c.if-end-bytes.false c.mark_before-mark.ensures
+    c.mark_stands.ensures c.if-mark_stands.false

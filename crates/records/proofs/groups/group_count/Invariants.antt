@@ -1,0 +1,17 @@
+-- The invariants and measures of `groups.group_count`. Assumes nothing.
+use Prim.Native.Nat.{◌+◌}
+use native.Mathlib.Omega.{arith}
+use borrow.Author.Rules.{rules}
+use mathlib.Core.Path.{◌≡◌, ap}
+use lib.ListN.{length}
+use Rattle.records.specs.Groups.{leading, groups}
+use Rattle.records.proofs.theory.Grouping.{leading-none, leading-longer, groups-longer, groups_five}
+use Rattle.records.proofs.groups.group_count.Given as goal
+
+abbrev pub invariant-loop-higher : goal.invariant-loop-higher
+invariant-loop-higher l =
+    l.count + length (leading l.higher) ≡ length (groups l.n)
+
+abbrev pub decreases-loop-higher : goal.decreases-loop-higher
+decreases-loop-higher l =
+    l.higher

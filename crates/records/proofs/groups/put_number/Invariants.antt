@@ -1,0 +1,28 @@
+-- The invariants and measures of `groups.put_number`. Assumes nothing.
+use Prim.Native.Nat.{ℕ, suc, ◌+◌, ◌-◌, ◌/◌, ◌%◌, ◌≤◌, ◌<◌}
+use native.Mathlib.Omega.{arith}
+use mathlib.Core.Path.{◌≡◌, refl, sym, ap, ◌∙◌}
+use mathlib.Core.List.{List, [], ◌∷◌, ◌++◌, append_assoc, append-nil}
+use lib.ListN.{length, set, length-append}
+use lib.Seq.{sets, length-sets}
+use borrow.Author.Rules.{rules}
+use Rattle.records.specs.Groups.{leading, groups}
+use Rattle.records.specs.Put.{Put}
+use Rattle.records.proofs.theory.Grouping.{leading-none, leading-more, leading-longer, groups_are, groups-longer}
+use Rattle.records.proofs.code.Storing.{store_before, put_then, put-length}
+use Rattle.records.proofs.groups.put_number.Given as goal
+
+-- the loop: the groups of the rest are still to be put before the place, and the other leading groups stand from there on
+pub record Putting (n at : ℕ) (old new : List ℕ) (place rest : ℕ) : Type 0 where
+  pub behind : List ℕ
+  pub whole : leading (n / 128) ≡ leading rest ++ behind
+  pub before : place ≡ at + length (leading rest)
+  pub stored : new ≡ sets old place behind
+
+abbrev pub invariant-loop-rest : goal.invariant-loop-rest
+invariant-loop-rest l =
+    Putting l.n l.at l.initial.out l.out l.place l.rest
+
+abbrev pub decreases-loop-rest : goal.decreases-loop-rest
+decreases-loop-rest l =
+    l.rest

@@ -1,0 +1,37 @@
+-- `put::put_bytes` meets its contract. The invariant: the first i bytes are put.
+-- Assumes nothing.
+use Prim.Native.Nat.{◌+◌, ◌-◌, ◌≤◌}
+use native.Mathlib.Omega.{arith}
+use mathlib.Core.Path.{refl}
+use lib.ListN.{length, take}
+use Rattle.records.specs.Put.{Put}
+use Rattle.records.proofs.code.Storing.{put-none, put_next, put_all, put-length}
+use Rattle.records.proofs.put.put_bytes.Goals as goal
+
+pub loop-i-init : goal.loop-i-init
+loop-i-init c =
+    (omega arith, put-none _ _ _ refl)
+
+pub overflow_add-out : goal.overflow_add-out
+overflow_add-out c =
+    omega (arith, c.requires)
+
+pub bounds-out-at : goal.bounds-out-at
+bounds-out-at c =
+    omega (arith, c.requires, put-length c.loop-i.invariant.1)
+
+pub loop-i-preserved : goal.loop-i-preserved
+loop-i-preserved c =
+    (omega (arith, c.loop-i-test.true), put_next _ _ _ _ _ c.loop-i-test.true c.loop-i.invariant.1)
+
+pub overflow_add-result : goal.overflow_add-result
+overflow_add-result c =
+    omega (arith, c.requires, c.loop-i.invariant.0)
+
+pub shape_of-out : goal.shape_of-out
+shape_of-out c =
+    put-length c.loop-i.invariant.1
+
+pub returns : goal.returns
+returns c =
+    put_all _ _ _ _ _ _ c.loop-i-test.false c.loop-i.invariant.1

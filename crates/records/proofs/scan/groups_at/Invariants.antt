@@ -1,0 +1,27 @@
+-- The invariants and measures of `scan.groups_at`. Assumes nothing.
+use Prim.Native.Nat.{ℕ, zero, suc, ◌+◌, ◌-◌, ◌%◌, ◌^◌, ◌≤◌, ◌<◌}
+use native.Mathlib.Omega.{arith}
+use native.Mathlib.Numerals.{add-one}
+use borrow.Author.Rules.{rules}
+use mathlib.Core.Path.{◌≡◌, refl, sym, ap, ◌∙◌}
+use mathlib.Core.List.{List}
+use lib.ListN.{length, get_or}
+use Rattle.records.specs.declared.ReadRefusal.TheVariants.{CutShort, BadNumber}
+use Rattle.records.specs.declared.scan.Scanned.{Scanned}
+use Rattle.records.specs.declared.scan.Scanned.TheVariants.{Faulty}
+use Rattle.records.specs.Scan.{ended, groups_at}
+use Rattle.records.proofs.theory.Scanning.{groups-out, groups_cut, groups-last, groups-more, worth-next, worth-fits, worth_next}
+use Rattle.records.proofs.scan.groups_at.Given as goal
+
+pub record Looked (bytes : List ℕ) (first value at count : ℕ) : Type 0 where
+  pub few : count ≤ 5
+  pub small : value < 128 ^ count
+  pub rest : groups_at (5 - count) bytes first value at ≡ groups_at 5 bytes first 0 first
+
+abbrev pub invariant-loop-count : goal.invariant-loop-count
+invariant-loop-count l =
+    Looked l.bytes l.first l.value l.at l.count
+
+abbrev pub decreases-loop-count : goal.decreases-loop-count
+decreases-loop-count l =
+    5 - l.count
