@@ -67,6 +67,7 @@ module _ (g : Given) where
   list_any s (later a (here b)) = later a (here b)
   list_any s (later a (later b (here c))) = later a (later b (here c))
   list_any s (later a (later b (later c (here d)))) = absurd (true≢false (sym d))
+  list_any {why = why} s (later a (later b (later c (later _ x20)))) = elim x20 [ ]
 
   list_room : (s : Bool) → NoneHolds (list_tests (fields_of g) false)
       → first_refusal (list_tests (fields_of g) s) ≡ cond s (some ShortOutput) none

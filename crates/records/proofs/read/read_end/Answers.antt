@@ -15,3 +15,8 @@ returns-in-Whole c =
     let a = c.args in
     end-passed _ _ a.numbers _ a.at _ c.ended_at.ensures c.in-Whole.is
     (a.at + a.numbers.length - a.at) (omega arith) c.read_sealed.ensures
+
+pub slice_bounds-read_sealed-end : goal.slice_bounds-read_sealed-end
+slice_bounds-read_sealed-end c =
+    let a = c.args in
+    end-inside a.bytes.now [] a.numbers [] a.at _ c.ended_at.ensures c.in-Whole.is

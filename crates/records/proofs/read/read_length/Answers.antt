@@ -6,7 +6,7 @@ use Rattle.records.proofs.read.read_length.Goals as goal
 
 pub read_end-requires : goal.read_end-requires
 read_end-requires c =
-    numbers-read c.args.bytes.now _ _ _ c.args.plan.now _ _ _ c.pre
+    numbers-read c.args.bytes.now _ _ _ c.args.plan.now _ _ _ c.requires
     (sym c.length_at.ensures ∙ c.in-Number.is)
 
 pub returns-in-Faulty : goal.returns-in-Faulty

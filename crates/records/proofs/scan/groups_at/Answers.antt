@@ -51,9 +51,6 @@ module _ (bytes : List ℕ) (first value at count : ℕ) (looked : Looked bytes 
       let none : 5 - count ≡ zero = omega arith in
       groups-out bytes first value at ∙ ap (λ k. groups_at k bytes first value at) (sym none) ∙ looked.rest
 
-fits : (c : tie.In-loop invariant-loop decreases-loop) → c.before.loop.value < 268435456
-fits c = worth-fits _ c.before.loop.count c.before.loop.invariant.small c.loop-test.true
-
 pub loop-count-init : goal.loop-count-init
 loop-count-init c =
     record { few = omega arith; small = omega arith; rest = refl }
@@ -64,11 +61,11 @@ returns-then-bytes-at c =
 
 pub overflow_mul-value : goal.overflow_mul-value
 overflow_mul-value c =
-    omega (arith, fits c)
+    omega (arith, worth-fits _ c.loop-count.count c.loop-count.invariant.small c.loop-count-test.true)
 
 pub overflow_add-value : goal.overflow_add-value
 overflow_add-value c =
-    omega (arith, fits c)
+    omega (arith, worth-fits _ c.loop-count.count c.loop-count.invariant.small c.loop-count-test.true)
 
 pub returns-then-b-lt128 : goal.returns-then-b-lt128
 returns-then-b-lt128 c =

@@ -31,7 +31,7 @@ overflow_add-i c =
 
 pub loop-i-smaller : goal.loop-i-smaller
 loop-i-smaller c =
-    omega (arith, c.loop-i-test.taken, length-set c.loop-i.numbers c.loop-i.i c.in-Number.value)
+    omega (arith, length-set c.loop-i.numbers c.loop-i.i c.in-Number.value)
 
 pub loop-i-preserved : goal.loop-i-preserved
 loop-i-preserved c =
