@@ -42,6 +42,7 @@ list_place f short why most (later fits (here bad)) =
     omega (arith, bad-place (get_or f.moves place 0) place)
 list_place f short why most (later fits (later plays (here elsewhere))) = omega arith
 list_place f short why most (later fits (later plays (later goal (here no_room)))) = omega arith
+list_place f short why most (later fits (later plays (later goal (later _ x20)))) = elim x20 [ ]
 
 module _ (g : Given) (found : List ℕ) where
   abbrev limits : List (Test Limit)

@@ -12,8 +12,7 @@ use mir.Facts.{Fits-nat_abs}
 use mir.ValLaws.{to_z-of_z}
 use borrow.Author.Tests.{ltb-true}
 use Rattle.planner.specs.Limits.{ceiling_of}
-use Rattle.lowpengine.proofs.planning.highest_depth.Statement.{statement}
-use Rattle.lowpengine.proofs.planning.highest_depth.Tie as tie
+use Rattle.lowpengine.proofs.planning.highest_depth.Goals as goal
 
 below_zero : (z y : ℤ) → y ≡ z → lt_z y (pos 0) ≡ true → 0 ≡ ceiling_of z
 unfolding ceiling_of
@@ -40,14 +39,14 @@ number_of z y same e = ap nat_abs same ∙ of z (ap (λ x. lt_z x (pos 0)) (sym 
     of (pos n) not-below = refl
     of (negsuc n) not-below = absurd (true≢false not-below)
 
-cast-result : tie.Need-overflow-cast-result
-cast-result c = let fits = c.before.ranges.ceiling in casts _ _ (to_z-of_z w32 _ fits) fits c.if1.false
+pub overflow_cast-result : goal.overflow_cast-result
+overflow_cast-result c =
+    let fits = c.ranges.ceiling in casts _ _ (to_z-of_z w32 _ fits) fits c.if-ceiling-lt0.false
 
-returns : tie.Need-returns
-returns c = below_zero _ _ (to_z-of_z w32 _ c.before.ranges.ceiling) c.if1.true
+pub returns-then-ceiling-lt0 : goal.returns-then-ceiling-lt0
+returns-then-ceiling-lt0 c =
+    below_zero _ _ (to_z-of_z w32 _ c.ranges.ceiling) c.if-ceiling-lt0.true
 
-returns-2 : tie.Need-returns-2
-returns-2 c = number_of _ _ (to_z-of_z w32 _ c.before.ranges.ceiling) c.if1.false
-
-pub highest-depth-spec : {M : Type 1} → statement M
-highest-depth-spec = tie.close (tie.spec cast-result returns returns-2)
+pub returns-else-ceiling-lt0 : goal.returns-else-ceiling-lt0
+returns-else-ceiling-lt0 c =
+    number_of _ _ (to_z-of_z w32 _ c.ranges.ceiling) c.if-ceiling-lt0.false

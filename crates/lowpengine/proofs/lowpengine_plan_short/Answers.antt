@@ -1,0 +1,11 @@
+-- `lowpengine::lowpengine_plan_short` meets its contract: it is the call with the short call's weight. Assumes nothing.
+use borrow.Author.Rules.{rules}
+use mir.Syntax.{w32}
+use mir.ValLaws.{to_z-of_z}
+use Rattle.lowpengine.proofs.code.OwnTable.{same-ceiling}
+use Rattle.lowpengine.proofs.lowpengine_plan_short.Goals as goal
+
+pub returns : goal.returns
+returns c =
+    same-ceiling _ _ _ _ _ _ _ _ _ _ _ _ _ (to_z-of_z w32 _ c.ranges.ceiling)
+    c.plan_in_bytes.ensures

@@ -1,0 +1,21 @@
+-- The invariants and measures of `planning.clear`. Assumes nothing.
+use Prim.Native.Nat.{ℕ, ◌+◌, ◌-◌, ◌≤◌, ◌<◌}
+use mathlib.Core.Path.{◌≡◌, ap, ◌∙◌}
+use mathlib.Core.List.{List, ◌++◌, append-nil}
+use native.Mathlib.Omega.{arith}
+use lib.ListN.{length, set, drop, replicate, length-append, length-set, length-drop, length-replicate}
+use lib.Seq.{drop-length}
+use borrow.Author.Fill.{fill_none, fill_more}
+use Rattle.lowpengine.proofs.planning.clear.Given as goal
+
+pub record Clearing (found bytes : List ℕ) (i : ℕ) : Type 0 where
+  pub within : i ≤ length found
+  pub same : bytes ≡ replicate i 0 ++ drop i found
+
+abbrev pub invariant-loop-i : goal.invariant-loop-i
+invariant-loop-i l =
+    Clearing l.initial.bytes l.bytes l.i
+
+abbrev pub decreases-loop-i : goal.decreases-loop-i
+decreases-loop-i l =
+    length l.bytes - l.i
