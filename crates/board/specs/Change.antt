@@ -1,6 +1,6 @@
 -- How a move changes the distance: only the tray that slides counts, which comes one step nearer to its goal cell or goes one farther.
 -- Then all changes along a list, what a move answers, and the distance that whoever makes moves keeps. Assumes nothing.
-use Rattle.std.specs.Prelude.{ℕ, ◌≤◌, ◌<◌, ◌≡◌, cond, List, [], ◌∷◌, ltb, ℤ, pos, negsuc, ◌+ℤ◌}
+use Rattle.std.specs.Prelude.{ℕ, ◌≤◌, ◌≡◌, cond, List, [], ◌∷◌, ltb, ℤ, pos, negsuc, ◌+ℤ◌}
 use Rattle.board.specs.declared.Shape.{Shape}
 use Rattle.board.specs.declared.Position.{Position}
 use Rattle.board.specs.declared.Moved.{Moved}

@@ -29,9 +29,9 @@ use Rattle.board.specs.Parity.{is_odd}
 use Rattle.board.proofs.Laws.{faulty_means, faulty-given, none-faulty, board-of, faultless-sound, odd-never_solved}
 use Rattle.search.specs.Run.{rows_for}
 use Rattle.planner.specs.declared.Refusal.{Refusal}
-use Rattle.planner.specs.declared.Refusal.TheVariants.{OddBoard, NoPlan, OutOfVisits}
+use Rattle.planner.specs.declared.Refusal.TheVariants.{NoPlan, OutOfVisits}
 use Rattle.planner.specs.declared.Answer.{Answer}
-use Rattle.planner.specs.declared.Answer.TheVariants.{Planned, Refused as Refusing}
+use Rattle.planner.specs.declared.Answer.TheVariants.{Refused as Refusing}
 use Rattle.planner.specs.Limits.{ceiling_of, limit_tests}
 use Rattle.planner.specs.Answer.{called, short_buffer}
 use Rattle.planner.specs.Short.{called_short}
@@ -40,11 +40,11 @@ use Rattle.planner.specs.Answer.{number, cell, plan_length, visits, search_ran}
 use Rattle.planner.proofs.Promises as plan
 use Rattle.planner.proofs.theory.Kept.{Returned, OutOf}
 use Rattle.planner.proofs.theory.OddBoards.{OddAlone}
-use Rattle.planner.proofs.theory.Numbers.{IsPlan, plan_by_number, IsNoPlan, no_plan_by_number, IsSpent, spent_by_number}
+use Rattle.planner.proofs.theory.Numbers.{IsPlan, plan_by_number, no_plan_by_number, spent_by_number}
 use Rattle.planner.proofs.theory.Numbers.{odd_by_number, not-lowest_by_number, by_test, by_search}
 use Rattle.planner.proofs.theory.Ways.{apart, Way, refused, ran, way}
 use Rattle.planner.proofs.theory.Lowest.{PastSeven}
-use Rattle.planner.proofs.theory.Lending.{lending, by_length, same-moves}
+use Rattle.planner.proofs.theory.Lending.{lending, by_length}
 use Rattle.player.specs.declared.PlayRefusal.{PlayRefusal}
 use Rattle.player.specs.declared.Played.{Played}
 use Rattle.player.specs.declared.Played.TheVariants.{End, Refused}

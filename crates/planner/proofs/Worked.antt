@@ -3,7 +3,7 @@
 -- and are long enough. What tells slips in the search apart is computed there. Assumes nothing.
 use Prim.Native.Nat.{ℕ}
 use mathlib.Core.Path.{◌≡◌, refl}
-use mathlib.Core.List.{List, [], ◌∷◌, map, ◌++◌}
+use mathlib.Core.List.{List, [], ◌∷◌, map}
 use lib.IntN.{pos}
 use lib.ListN.{length, take, replicate}
 use Rattle.board.specs.declared.Fault.TheVariants.{TooLarge, Repeated}

@@ -7,7 +7,6 @@ use Rattle.board.specs.Tests.{Test, test, first_refusal, under}
 use Rattle.board.specs.Faults.{fault_tests, fault_number, fault_cell}
 use Rattle.board.specs.Parity.{is_odd}
 use Rattle.search.specs.declared.Weight.{Weight}
-use Rattle.planner.specs.declared.Plan.{Plan}
 use Rattle.planner.specs.declared.Terms.{Terms}
 use Rattle.planner.specs.declared.Refusal.{Refusal}
 use Rattle.planner.specs.declared.Refusal.TheVariants.{Board, Beyond, ShortBuffer, OddBoard, NoPlan, OutOfVisits}

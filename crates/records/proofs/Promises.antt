@@ -1,7 +1,7 @@
 -- What is promised of plan records: a number's groups are its one shortest form; a record has at most 149 bytes, and one has 149; what is
 -- written is a list that solves the board within the ceiling; a refusal is that of the first condition that holds;
 -- the output afterwards; and the contract leaves nothing open. Assumes nothing.
-use Prim.Native.Nat.{ℕ, ◌+◌, ◌≤◌, ◌<◌}
+use Prim.Native.Nat.{ℕ, ◌≤◌, ◌<◌}
 use mathlib.Core.Path.{◌≡◌, sym, ap, ◌∙◌}
 use mathlib.Core.Logic.{◌↔◌}
 use mathlib.Core.List.{List, ◌++◌}

@@ -8,7 +8,7 @@ use Rattle.search.specs.declared.Pick.{Pick}
 use Rattle.search.specs.declared.Out.{Out}
 use Rattle.search.specs.declared.Out.TheVariants.{Found, Value, Spent}
 use Rattle.search.specs.Row.{infinity, entry, best, second, first_stored, above_ceiling}
-use Rattle.search.specs.Space.{Space, boards}
+use Rattle.search.specs.Space.{boards}
 use Rattle.search.specs.Search.{Outcome, found, value, spent, static, visit, work, search}
 
 -- a job that passed the tests

@@ -1,7 +1,7 @@
 -- A legal move of a held board: the slide that it makes of the number holds the board after the move, and the two entries of the shape's
 -- table for the tray that slides tell the change of distance. Rests on Moving, Digits and Changes. Assumes nothing.
 use Prim.Native.Nat.{ℕ, ◌+◌, ◌*◌, ◌^◌, ◌<◌}
-use mathlib.Core.Path.{◌≡◌, refl, subst, sym, ap, ap₂, ◌∙◌}
+use mathlib.Core.Path.{◌≡◌, subst, sym, ap, ap₂, ◌∙◌}
 use mathlib.Core.Bool.{Bool, true}
 use mathlib.Core.Logic.{◌≢◌}
 use mathlib.Core.List.{List}
@@ -13,7 +13,6 @@ use lib.ListN.{length, set, get_or, length-set}
 use lib.Seq.{get_or-set_same, get_or-set_other, lt-length-set}
 use Rattle.board.specs.declared.Shape.{Shape}
 use Rattle.board.specs.declared.Position.{Position}
-use Rattle.board.specs.declared.Moved.{Moved}
 use Rattle.board.specs.Shape.{cells, GoodShape}
 use Rattle.board.specs.Board.{at, IsBoard, empty_cell}
 use Rattle.board.specs.Moves.{stays_on, leads_to, legal, slide, after}

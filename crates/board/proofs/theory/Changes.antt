@@ -3,7 +3,7 @@
 -- plus all changes is the last; and what a move answers is its change. Assumes nothing.
 use Prim.Native.Nat.{ℕ, zero, suc, ◌+◌, ◌*◌, ◌-◌, ◌/◌, ◌%◌, ◌≤◌, ◌<◌}
 use mathlib.Core.Path.{◌≡◌, refl, sym, ◌∙◌, ap}
-use mathlib.Core.Logic.{◌≢◌, inl, inr}
+use mathlib.Core.Logic.{inl, inr}
 use mathlib.Core.Bool.{Bool, true, false, cond}
 use mathlib.Core.List.{List, [], ◌∷◌}
 use native.Mathlib.Omega.{arith}
@@ -19,12 +19,11 @@ use Rattle.board.specs.Shape.{cells, GoodShape}
 use Rattle.board.specs.Board.{at, IsBoard, empty_cell}
 use Rattle.board.specs.Moves.{leads_to, legal, after}
 use Rattle.board.specs.Lists.{LegalList, end_board}
-use Rattle.board.specs.Distance.{tray_distance, distance_from, distance, way, cell_at, near_at, NearTable}
+use Rattle.board.specs.Distance.{tray_distance, distance, way, cell_at, near_at, NearTable}
 use Rattle.board.specs.Change.{OneStep, nearer, farther, change_of, change, change_to, changes, MovedBy}
 use Rattle.board.proofs.theory.OneApart.{OneApart}
 use Rattle.board.proofs.theory.Sides.{cells-within}
 use Rattle.board.proofs.theory.Boards.{empty-inside, empty-holds_0}
-use Rattle.board.proofs.theory.Swaps.{swapped}
 use Rattle.board.proofs.theory.Moving.{target, legal_step, target-inside, target-elsewhere, target-holds-tray}
 use Rattle.board.proofs.theory.Moving.{after_swaps, after-board}
 use Rattle.board.proofs.theory.Distances.{tray-between, step_between, distance-swapped}

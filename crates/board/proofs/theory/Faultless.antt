@@ -1,19 +1,17 @@
 -- Tests 1 to 4 mean what they say. Each test by itself: no cell is too large, no cell repeats another. Then the whole: `tested`
 -- answers Sound exactly for a good shape and a board of it, and gives that shape; a fault's cell is one of sixteen. Assumes nothing.
 use Prim.Native.Nat.{ℕ, ◌*◌, ◌≤◌, ◌<◌}
-use mathlib.Core.Path.{◌≡◌, refl, subst, ◌∙◌}
+use mathlib.Core.Path.{◌≡◌, refl, ◌∙◌}
 use mathlib.Core.Logic.{◌↔◌}
-use mathlib.Core.Bool.{Bool, true, false, not, ◌||◌}
+use mathlib.Core.Bool.{Bool, false, ◌||◌}
 use mathlib.Core.List.{List}
 use mathlib.Core.Option.{Option, none, some}
 use native.Mathlib.Omega.{arith}
-use lib.Dec.{ltb, leb, eqb}
+use lib.Dec.{leb, eqb}
 use lib.ListN.{length}
 use borrow.Author.Tests.{ltb-true, ltb-false, leb-false, eqb-true, eqb-false, not-false, lt-leb, le-ltb, eq-eqb, ne_eqb}
 use Rattle.board.specs.declared.Shape.{Shape}
 use Rattle.board.specs.declared.Fault.{Fault}
-use Rattle.board.specs.declared.Fault.TheVariants.{BadShape, BadLength, TooLarge, Repeated}
-use Rattle.board.specs.declared.Tested.{Tested}
 use Rattle.board.specs.declared.Tested.TheVariants.{Sound, Faulty}
 use Rattle.board.specs.First.{first_of}
 use Rattle.board.specs.Shape.{cells, GoodShape, bad_side}

@@ -1,10 +1,9 @@
 -- Tests in a fixed order: `first_refusal` answers exactly the refusal of the first test that holds, and nothing exactly where none holds.
 -- Then lists of tests put together: one list behind another, and a list whose refusals are held by another kind. Assumes nothing.
-use mathlib.Core.Path.{◌≡◌, refl, sym, subst, ◌∙◌}
-use mathlib.Core.Bool.{Bool, true, false, cond, true≢false}
+use mathlib.Core.Path.{◌≡◌, refl, sym, subst}
+use mathlib.Core.Bool.{Bool, true, false, cond}
 use mathlib.Core.List.{List, [], ◌∷◌, ◌++◌}
-use mathlib.Core.Logic.{◌↔◌}
-use mathlib.Core.Option.{Option, none, some, some-injective, some-ne-none}
+use mathlib.Core.Option.{none, some, some-injective, some-ne-none}
 use Rattle.board.specs.Tests.{Test, first_refusal, FirstToHold, here, later, NoneHolds, end, past, under}
 
 module _ {R : Type 0} where

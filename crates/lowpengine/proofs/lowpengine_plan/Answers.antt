@@ -1,5 +1,4 @@
 -- `lowpengine::lowpengine_plan` meets its contract: it is the planner's call with the table as bytes. Assumes nothing.
-use borrow.Author.Rules.{rules}
 use mir.Syntax.{w32}
 use mir.ValLaws.{to_z-of_z}
 use Rattle.lowpengine.proofs.code.OwnTable.{same-ceiling}

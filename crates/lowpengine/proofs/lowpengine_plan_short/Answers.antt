@@ -1,5 +1,4 @@
 -- `lowpengine::lowpengine_plan_short` meets its contract: it is the call with the short call's weight. Assumes nothing.
-use borrow.Author.Rules.{rules}
 use mir.Syntax.{w32}
 use mir.ValLaws.{to_z-of_z}
 use Rattle.lowpengine.proofs.code.OwnTable.{same-ceiling}

@@ -1,5 +1,4 @@
 -- `lowpengine::lowpengine_play` meets its contract: the player's answer, packed. Assumes nothing.
-use borrow.Author.Rules.{rules}
 use Rattle.lowpengine.proofs.lowpengine_play.Goals as goal
 
 pub returns : goal.returns

@@ -1,5 +1,4 @@
 -- `lowpengine::lowpengine_read_record` meets its contract: the record reader's answer, packed, and its output. Assumes nothing.
-use borrow.Author.Rules.{rules}
 use mathlib.Core.Path.{sym, ap, ◌∙◌}
 use Rattle.lowpengine.specs.Packed.{packed_reading}
 use Rattle.lowpengine.proofs.theory.Narrowed.{reads_narrow}

@@ -1,5 +1,4 @@
 -- `lowpengine::lowpengine_write_record` meets its contract: the record writer's answer, packed, and its output. Assumes nothing.
-use borrow.Author.Rules.{rules}
 use mathlib.Core.Path.{ap, ◌∙◌}
 use mir.Syntax.{w32}
 use mir.ValLaws.{to_z-of_z}

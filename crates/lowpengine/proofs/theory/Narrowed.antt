@@ -9,7 +9,7 @@ use native.Mathlib.Omega.{arith}
 use lib.IntN.{pos}
 use lib.ListN.{length, length-take, length-drop, drop}
 use borrow.Author.Tests.{ltb-false}
-use Rattle.board.specs.Tests.{Test, first_refusal, NoneHolds, end, past, under}
+use Rattle.board.specs.Tests.{Test, first_refusal, NoneHolds, past, under}
 use Rattle.board.specs.Faults.{fault_tests}
 use Rattle.board.proofs.Laws.{none_means, none-split, board-of, side_within}
 use Rattle.planner.specs.Limits.{ceiling_of, limit_tests}

@@ -1,5 +1,5 @@
 -- The answer that the search's end makes: how many visits are left, and what is settled. Assumes nothing.
-use Prim.Native.Nat.{ℕ, ◌-◌, ◌≤◌}
+use Prim.Native.Nat.{ℕ, ◌-◌}
 use mathlib.Core.Path.{◌≡◌, refl, sym, ap, subst, ◌∙◌}
 use mathlib.Core.List.{List, ◌++◌}
 use native.Mathlib.Nat.{zero-add}
@@ -9,7 +9,6 @@ use Rattle.board.specs.declared.Shape.{Shape}
 use Rattle.board.specs.Tests.{NoneHolds}
 use Rattle.search.specs.declared.Job.{Job}
 use Rattle.search.specs.declared.Out.{Out}
-use Rattle.search.specs.declared.Out.TheVariants.{Found, Value, Spent}
 use Rattle.search.specs.Search.{Outcome, found, value, spent}
 use Rattle.search.specs.Run.{told, written, of_job, Searched}
 use Rattle.search.proofs.theory.Theory.{plan_counts, value_counts}

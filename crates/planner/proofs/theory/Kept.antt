@@ -1,13 +1,13 @@
 -- The proofs of the promises (Promises), each from what the answer was made from and from the theory of the search. First legal lists as
 -- the search's space has them, then what a search that ran tells, then the promises in the order of Promises. Assumes nothing.
-use Prim.Native.Nat.{ℕ, ◌+◌, ◌*◌, ◌-◌, ◌≤◌, ◌<◌}
+use Prim.Native.Nat.{ℕ, ◌*◌, ◌-◌, ◌≤◌, ◌<◌}
 use mathlib.Core.Path.{◌≡◌, refl, sym, ap, subst, ◌∙◌}
-use mathlib.Core.Bool.{Bool, true, false, true≢false}
+use mathlib.Core.Bool.{true, false, true≢false}
 use mathlib.Core.List.{List, ◌++◌}
 use mathlib.Core.Logic.{◌↔◌, ◌⊎◌, inl, inr}
 use native.Mathlib.Nat.{mul-le-mul}
 use native.Mathlib.Omega.{arith}
-use lib.IntN.{ℤ, pos, negsuc}
+use lib.IntN.{negsuc}
 use lib.ListN.{length, take, drop}
 use lib.Seq.{take-append_seam, drop-append_seam}
 use Rattle.board.specs.declared.Shape.{Shape}
@@ -20,16 +20,15 @@ use Rattle.board.specs.Parity.{is_odd}
 use Rattle.board.proofs.Laws.{is_goal-sound, is_goal-complete, list_board, board-of, odd-never_solved, distance-at-most_90}
 use Rattle.search.specs.Row.{infinity}
 use Rattle.search.specs.Space.{boards}
-use Rattle.search.specs.Search.{Outcome, found, value, spent, static, search}
+use Rattle.search.specs.Search.{Outcome, found, value, spent, static}
 use Rattle.search.proofs.theory.Laws.{Laws, Reaches}
 use Rattle.search.proofs.theory.Fair.{Fair, static-fair}
 use Rattle.search.proofs.theory.Limits.{Capped}
-use Rattle.search.proofs.theory.Theory.{plan-reaches, plan-within, plan-close, value_beyond, value_infinite, plan_counts, value_counts}
+use Rattle.search.proofs.theory.Theory.{plan-reaches, plan-within, plan-close, value_beyond, value_infinite, plan_counts}
 use Rattle.search.proofs.theory.Theory.{spent-plan, spent-value, above-at-once}
 use Rattle.search.proofs.code.BoardSpace.{board-laws, passed, passes}
 use Rattle.planner.specs.declared.Plan.{Plan}
 use Rattle.planner.specs.declared.Limit.{Limit}
-use Rattle.planner.specs.declared.Limit.TheVariants.{BadCeiling}
 use Rattle.planner.specs.declared.Refusal.{Refusal}
 use Rattle.planner.specs.declared.Refusal.TheVariants.{Board, Beyond, ShortBuffer, OddBoard, NoPlan, OutOfVisits}
 use Rattle.planner.specs.declared.Answer.{Answer}
@@ -37,7 +36,7 @@ use Rattle.planner.specs.declared.Answer.TheVariants.{Planned, Refused}
 use Rattle.planner.specs.Limits.{bad_ceiling, ceiling_of, limit_tests, limit_number}
 use Rattle.planner.specs.Answer.{Call, Left, shape_of, weight_of, cleared, last_tests, tests, searched, untouched, concluded, answered}
 use Rattle.planner.specs.Answer.{called, refusal_number, TestNumber, LateNumber, SearchNumber, number, visits}
-use Rattle.planner.proofs.theory.Passing.{GoodWeight, weight-passes, ceiling-passes, budget-passes, Kept, limits-kept}
+use Rattle.planner.proofs.theory.Passing.{GoodWeight, weight-passes, ceiling-passes, budget-passes}
 use Rattle.planner.proofs.theory.Ways.{Clear, clear, Refusing, by_board, by_limit, by_last, refusing}
 use Rattle.planner.proofs.theory.Ways.{fault-number, limit-number, early_number, apart, refusal-positive}
 use Rattle.planner.proofs.theory.Ways.{refused_by, ran_to, Way, refused, ran, way, PlanFrom, TestRefused, NoPlanFrom, SpentFrom}

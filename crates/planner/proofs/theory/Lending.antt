@@ -2,7 +2,7 @@
 -- its plan are the same. Then what is left of the table, by whether the search was run. Assumes nothing.
 use Prim.Native.Nat.{ℕ, ◌≤◌}
 use mathlib.Core.Path.{◌≡◌, refl, sym, ap, ◌∙◌}
-use mathlib.Core.Bool.{Bool, true, false}
+use mathlib.Core.Bool.{true, false}
 use mathlib.Core.List.{List, ◌++◌}
 use mathlib.Core.Logic.{inr}
 use mathlib.Core.Option.{Option, none, some}
@@ -16,8 +16,7 @@ use Rattle.search.specs.Search.{Outcome, found, value, spent}
 use Rattle.search.specs.Run.{rows_for}
 use Rattle.planner.specs.declared.Refusal.{Refusal}
 use Rattle.planner.specs.declared.Refusal.TheVariants.{Board, Beyond, ShortBuffer, OddBoard, NoPlan, OutOfVisits}
-use Rattle.planner.specs.declared.Answer.{Answer}
-use Rattle.planner.specs.declared.Answer.TheVariants.{Planned, Refused}
+use Rattle.planner.specs.declared.Answer.TheVariants.{Refused}
 use Rattle.planner.specs.Limits.{bad_ceiling, ceiling_of, limit_tests}
 use Rattle.planner.specs.Answer.{Call, Left, short_buffer, last_tests, tests, searched, cleared, concluded, after_tests, answered}
 use Rattle.planner.specs.Answer.{called, plan_length, refusal_number, TestNumber, search_ran}

@@ -2,7 +2,7 @@
 -- and are the same fraction are equal. Assumes nothing.
 use Prim.Native.Nat.{ℕ, ◌*◌}
 use mathlib.Core.Path.{◌≡◌, refl, sym, ap, ◌∙◌}
-use mathlib.Core.Bool.{true, false, true≢false}
+use mathlib.Core.Bool.{false, true≢false}
 use mathlib.Core.Logic.{◌↔◌}
 use native.Mathlib.Nat.{le_refl}
 use native.Mathlib.Omega.{arith}
@@ -15,7 +15,7 @@ use Rattle.planner.specs.declared.Limit.TheVariants.{NotLowest}
 use Rattle.planner.specs.declared.Refusal.{Refusal}
 use Rattle.planner.specs.declared.Refusal.TheVariants.{Board, Beyond}
 use Rattle.planner.specs.declared.Answer.TheVariants.{Refused}
-use Rattle.planner.specs.Limits.{bad_ceiling, bad_budget, bad_weight, CommonDivisor, shares_divisor, limit_tests, limit_number}
+use Rattle.planner.specs.Limits.{bad_ceiling, bad_budget, bad_weight, CommonDivisor, limit_tests, limit_number}
 use Rattle.planner.specs.Answer.{Call, Left, tests, answered, refusal_number}
 use Rattle.planner.proofs.theory.Divisors.{Lowest, shares_exactly, one-weight}
 use Rattle.planner.proofs.theory.Passing.{Kept, weight-passes}

@@ -10,7 +10,7 @@ use Rattle.board.specs.Faults.{fault_tests}
 use Rattle.board.specs.Parity.{is_odd}
 use Rattle.board.proofs.Laws.{behind-given}
 use Rattle.planner.specs.declared.Refusal.{Refusal}
-use Rattle.planner.specs.declared.Refusal.TheVariants.{Board, Beyond, ShortBuffer, OddBoard}
+use Rattle.planner.specs.declared.Refusal.TheVariants.{Board, Beyond, OddBoard}
 use Rattle.planner.specs.Limits.{ceiling_of, limit_tests}
 use Rattle.planner.specs.Answer.{Call, Left, shape_of, short_buffer, last_tests, tests, answered, number}
 use Rattle.planner.proofs.theory.Ways.{Refusing, by_board, by_limit, by_last, refusing, refused_by, TestRefused, made-from}

@@ -1,18 +1,17 @@
 -- How large the fields of a call's answer can be. What holds them in fewer bits rests on this. Assumes nothing.
-use Prim.Native.Nat.{ℕ, ◌≤◌}
+use Prim.Native.Nat.{◌≤◌}
 use mathlib.Core.Path.{◌≡◌, refl}
 use native.Mathlib.Omega.{arith}
 use Rattle.board.proofs.Laws.{fault-cell-inside, faulty-given}
 use Rattle.board.specs.declared.Fault.{Fault}
 use Rattle.board.specs.Faults.{fault_cell}
 use Rattle.planner.specs.declared.Plan.{Plan}
-use Rattle.planner.specs.declared.Refusal.{Refusal}
 use Rattle.planner.specs.declared.Refusal.TheVariants.{Board, Beyond, ShortBuffer, OddBoard, NoPlan, OutOfVisits}
 use Rattle.planner.specs.declared.Answer.{Answer}
 use Rattle.planner.specs.declared.Answer.TheVariants.{Planned, Refused}
 use Rattle.planner.specs.Answer.{Call, answered, number, cell, plan_length, visits}
 use Rattle.planner.proofs.theory.Passing.{ceiling-passes, budget-passes}
-use Rattle.planner.proofs.theory.Ways.{Clear, clear, Refusing, by_board, by_limit, by_last, refusing, fault-number, limit-number}
+use Rattle.planner.proofs.theory.Ways.{Clear, clear, Refusing, by_board, by_last, refusing, fault-number, limit-number}
 use Rattle.planner.proofs.theory.Ways.{last-number, PlanFrom, TestRefused, NoPlanFrom, SpentFrom, made-from}
 use Rattle.planner.proofs.theory.Kept.{PlanMade, plan-made}
 

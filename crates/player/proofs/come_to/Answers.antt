@@ -1,7 +1,6 @@
 -- `player::come_to` meets its contract: each way out has the test that it comes by, and the goal is known by distance 0.
 -- Assumes nothing.
 use mathlib.Core.Path.{sym, ap}
-use borrow.Author.Rules.{rules}
 use borrow.Author.Tests.{lt-ltb, le-ltb}
 use Rattle.board.proofs.Laws.{kept-goal}
 use Rattle.player.specs.declared.Played.TheVariants.{End, Refused}

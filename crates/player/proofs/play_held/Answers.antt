@@ -2,12 +2,10 @@
 -- it stopped before, the output is as found. Assumes nothing.
 use Prim.Native.Nat.{ℕ, ◌≤◌, ◌<◌}
 use mathlib.Core.Path.{◌≡◌, sym, ap, ◌∙◌}
-use mathlib.Core.Logic.{⊎_elim}
 use mathlib.Core.List.{List, ◌++◌}
 use native.Mathlib.Omega.{arith}
 use lib.ListN.{length, take, drop, get_or}
 use lib.Seq.{take-length}
-use borrow.Author.Rules.{rules}
 use borrow.Author.Tests.{lt-ltb, le-ltb}
 use Rattle.board.specs.declared.Shape.{Shape}
 use Rattle.board.specs.Shape.{cells}
@@ -73,8 +71,8 @@ returns c =
     let runs = c.run-ran.ensures in
     elim c.if-bad-moves.branch [
       | then-bad-moves w ↦
-        all-good _ _ _ _ _ _ _ runs c.requires.shape_in_bounds c.come_to.ensures w.if-bad-moves.true
-        (w.out-is ∙ w.put.ensures)
+          all-good _ _ _ _ _ _ _ runs c.requires.shape_in_bounds c.come_to.ensures w.if-bad-moves.true
+          (w.out-is ∙ w.put.ensures)
       | else-bad-moves w ↦
-        one-bad _ _ _ _ _ _ _ runs c.requires.shape_in_bounds c.come_to.ensures w.if-bad-moves.false w.out-is
+          one-bad _ _ _ _ _ _ _ runs c.requires.shape_in_bounds c.come_to.ensures w.if-bad-moves.false w.out-is
     ]

@@ -1,7 +1,7 @@
 -- The first bad move in terms of the board part's legal lists: no move is bad exactly if the list is legal; and place i is the
 -- first bad move's exactly if the moves before it are a legal list and move i is not legal on the board that they end at.
 -- Before these, one more move of a list, and its tests one by one. Assumes nothing.
-use Prim.Native.Nat.{ℕ, zero, suc, ◌+◌, ◌≤◌, ◌<◌}
+use Prim.Native.Nat.{ℕ, zero, suc, ◌≤◌, ◌<◌}
 use mathlib.Core.Path.{◌≡◌, refl, sym, ap, ap₂, subst, ◌∙◌}
 use mathlib.Core.Logic.{◌↔◌}
 use mathlib.Core.Bool.{Bool, true, false, not}

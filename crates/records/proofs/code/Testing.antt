@@ -12,7 +12,6 @@ use borrow.Author.Tests.{lt-ltb, le-ltb}
 use Rattle.board.specs.declared.Shape.{Shape}
 use Rattle.board.specs.declared.Fault.{Fault}
 use Rattle.board.specs.declared.Tested.TheVariants.{Faulty}
-use Rattle.board.specs.Shape.{cells}
 use Rattle.board.specs.Board.{is_goal}
 use Rattle.board.specs.Lists.{end_board}
 use Rattle.board.specs.Tests.{Test, test, first_refusal, FirstToHold, here, later, NoneHolds, end, past}

@@ -1,11 +1,8 @@
 -- The invariants and measures of `clear`. Assumes nothing.
-use Prim.Native.Nat.{ℕ, ◌+◌, ◌-◌, ◌≤◌, ◌<◌}
-use mathlib.Core.Path.{◌≡◌, refl, ap, ◌∙◌}
-use mathlib.Core.List.{List, ◌++◌, append-nil}
-use native.Mathlib.Omega.{arith}
-use lib.ListN.{length, set, drop, replicate, length-set, drop_of_length-le}
-use borrow.Author.Rules.{rules, scaled_Fits}
-use borrow.Author.Fill.{fill_none, fill_more}
+use Prim.Native.Nat.{ℕ, ◌-◌, ◌≤◌}
+use mathlib.Core.Path.{◌≡◌}
+use mathlib.Core.List.{List, ◌++◌}
+use lib.ListN.{length, drop, replicate}
 use Rattle.search.proofs.clear.Given as goal
 
 pub record Cleared (table₀ table : List ℕ) (i : ℕ) : Type 0 where

@@ -1,11 +1,10 @@
 -- An answer in one number: what the number reads as by its three parts, and the numbers that the code makes. Assumes nothing.
 use Prim.Native.Nat.{ℕ, ◌+◌, ◌*◌, ◌/◌, ◌%◌, ◌≤◌, ◌<◌}
-use mathlib.Core.Path.{◌≡◌, refl}
+use mathlib.Core.Path.{◌≡◌}
 use mathlib.Core.Bool.{cond}
 use native.Mathlib.Omega.{arith}
 use lib.Dec.{eqb}
 use borrow.Author.Tests.{ne_eqb}
-use Rattle.search.specs.declared.Out.{Out}
 use Rattle.search.specs.declared.Out.TheVariants.{Found, Value, Spent}
 use Rattle.search.specs.Run.{answer_of}
 

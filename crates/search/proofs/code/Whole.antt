@@ -1,8 +1,8 @@
 -- What the whole search rests on: the visit to the start and the path that it gathered; the part of the table that is lent to it, and
 -- that part cleared.
 -- Assumes nothing.
-use Prim.Native.Nat.{ℕ, ◌*◌, ◌+◌, ◌-◌, ◌≤◌}
-use mathlib.Core.Path.{◌≡◌, refl, sym, ap, ap₂, ◌∙◌}
+use Prim.Native.Nat.{ℕ, ◌+◌, ◌-◌, ◌≤◌}
+use mathlib.Core.Path.{◌≡◌, sym, ap, ap₂, ◌∙◌}
 use mathlib.Core.List.{List, ◌++◌}
 use native.Mathlib.Nat.{sub-zero, zero-add}
 use native.Mathlib.Omega.{arith}
@@ -13,7 +13,7 @@ use Rattle.search.specs.declared.Out.{Out}
 use Rattle.search.specs.Row.{infinity}
 use Rattle.search.specs.Space.{boards}
 use Rattle.search.specs.Search.{Outcome, found, value, spent, static, visit, search}
-use Rattle.search.specs.Run.{SmallJob, rows_for, Room, visited, told, written, Ran, of_job, found_length, Ended, cleared_rows, Searched}
+use Rattle.search.specs.Run.{SmallJob, rows_for, Room, visited, told, written, Ran, of_job, found_length, Ended, Searched}
 use Rattle.search.proofs.theory.Depth.{NotLonger, visit_depth}
 
 -- ---- the visit to the start

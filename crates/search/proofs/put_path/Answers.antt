@@ -1,12 +1,11 @@
 -- `search::put_path` meets its contract: the loop has put the first i moves, and left the rest as found. Assumes nothing.
-use Prim.Native.Nat.{ℕ, suc, ◌+◌, ◌-◌, ◌≤◌, ◌<◌}
+use Prim.Native.Nat.{ℕ, suc, ◌+◌, ◌≤◌, ◌<◌}
 use mathlib.Core.Path.{◌≡◌, refl, sym, ap, ◌∙◌}
 use mathlib.Core.List.{List, ◌++◌}
 use native.Mathlib.Omega.{arith}
 use native.Mathlib.Numerals.{add-one}
 use lib.ListN.{length, take, drop, set, get_or, length-append, length-take, length-drop}
 use lib.Seq.{take-suc, drop-cons, append_snoc, set_at, length-take-le}
-use borrow.Author.Rules.{rules}
 use Rattle.search.proofs.put_path.Invariants.{puts, Putting}
 use Rattle.search.proofs.put_path.Goals as goal
 

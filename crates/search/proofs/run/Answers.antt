@@ -1,5 +1,4 @@
 -- `search::run` meets its contract: the visit to the start on the lent part of the table, and that part cleared. Assumes nothing.
-use borrow.Author.Rules.{rules}
 use mathlib.Core.Path.{refl, sym}
 use lib.Seq.{length-take-le}
 use Rattle.search.proofs.code.Whole.{part_room, whole_part, searched-whole}

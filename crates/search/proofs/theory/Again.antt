@@ -1,10 +1,10 @@
 -- The budget matters to an answer only in being enough: where a visit ends with some visits left, it ends in the same way with any number
 -- of visits from which the same count can be taken. First the turns of the work, of which one more than the visits left is always enough;
 -- then the claim for the work and for a visit. Holds over any space, with no law. Rests on `Budget.antt`. Assumes nothing.
-use Prim.Native.Nat.{ℕ, zero, suc, ◌+◌, ◌-◌, ◌≤◌, ◌<◌}
-use mathlib.Core.Path.{◌≡◌, refl, ap, subst}
+use Prim.Native.Nat.{ℕ, zero, suc, ◌+◌, ◌-◌, ◌<◌}
+use mathlib.Core.Path.{◌≡◌, refl, ap}
 use mathlib.Core.Bool.{Bool, true, false}
-use mathlib.Core.List.{List, [], ◌∷◌}
+use mathlib.Core.List.{List, []}
 use native.Mathlib.Omega.{arith}
 use lib.ListN.{set}
 use Rattle.search.specs.Space.{Space}

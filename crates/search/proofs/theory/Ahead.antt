@@ -2,7 +2,7 @@
 -- decides the next turn: where it stops the work, that visit is the last, and otherwise it is the row's least F. First the loop's
 -- test of any value, then the visits over any space, then a row. Rests on Rows and Turns; no law of a space is used. Assumes nothing.
 use Prim.Native.Nat.{ℕ, zero, suc, ◌≤◌, ◌<◌, min}
-use mathlib.Core.Path.{◌≡◌, refl, ap, sym, ◌∙◌, subst}
+use mathlib.Core.Path.{◌≡◌, refl, ap}
 use mathlib.Core.Bool.{Bool, true, false, ◌&&◌, false≢true}
 use mathlib.Core.List.{List}
 use mathlib.Core.Logic.{◌⊎◌, ◌≢◌, inl, inr}

@@ -1,13 +1,12 @@
 -- No path is longer than what is left of the ceiling: each move of it is one level of the search. No law of a space is used.
 -- Rests on Turns. Assumes nothing.
 use Prim.Native.Nat.{ℕ, zero, suc, ◌≤◌}
-use mathlib.Core.Path.{◌≡◌, subst}
 use mathlib.Core.List.{List}
 use native.Mathlib.Omega.{arith}
 use lib.ListN.{length}
 use Rattle.search.specs.Space.{Space}
 use Rattle.search.specs.Row.{best, handed_down}
-use Rattle.search.specs.Search.{Outcome, found, value, spent, first_row, visit, work}
+use Rattle.search.specs.Search.{Outcome, first_row, visit, work}
 use Rattle.search.proofs.theory.Turns.{Ends, ends-map, goal-ends, work-ends}
 
 abbrev pub NotLonger : ℕ → Outcome → Type 0

@@ -1,23 +1,9 @@
 -- The invariants and measures of `distance.distance`. Assumes nothing.
-use Prim.Native.Nat.{ℕ, zero, suc, ◌+◌, ◌*◌, ◌-◌, ◌≤◌, ◌<◌}
-use mathlib.Core.Path.{◌≡◌, refl, sym, ap, ap₂, ◌∙◌}
+use Prim.Native.Nat.{ℕ, suc, ◌+◌, ◌*◌, ◌-◌, ◌≤◌}
+use mathlib.Core.Path.{◌≡◌}
 use mathlib.Core.List.{List, [], ◌∷◌}
-use native.Mathlib.Omega.{arith}
-use native.Mathlib.Nat.{add-zero, zero-add}
-use native.Mathlib.Numerals.{add-one}
-use lib.ListN.{length, get_or, drop, drop_of_length-le}
-use lib.Seq.{drop-cons}
-use Rattle.board.specs.declared.Shape.{Shape}
-use Rattle.board.specs.declared.Position.{Position}
-use Rattle.board.specs.Shape.{cells, GoodShape}
-use Rattle.board.specs.Board.{at, IsBoard}
-use Rattle.board.specs.Distance.{tray_distance, distance_from, distance, NearTable}
-use Rattle.board.specs.Digits.{digits, digit}
-use Rattle.board.specs.Held.{held, Holds}
-use Rattle.board.proofs.theory.Sides.{cells-within}
-use Rattle.board.proofs.theory.Distances.{distance-at-most_90}
-use Rattle.board.proofs.theory.Digits.{at-digits}
-use Rattle.board.proofs.theory.Changes.{looked_up}
+use lib.ListN.{get_or, drop}
+use Rattle.board.specs.Digits.{digits}
 use Rattle.board.proofs.distance.distance.Given as goal
 
 -- what f gives for the cells i, i + 1, .., summed

@@ -3,7 +3,6 @@
 use Prim.Native.Nat.{ℕ, ◌+◌, ◌*◌, ◌-◌, ◌/◌, ◌%◌, ◌≤◌, ◌<◌}
 use mathlib.Core.Path.{◌≡◌}
 use native.Mathlib.Omega.{arith}
-use borrow.Author.Rules.{rules}
 use Rattle.board.specs.Shape.{Side, two, three, four}
 use Rattle.board.proofs.theory.Sides.{side_within, cells-within, few_widths}
 use Rattle.board.proofs.distance.four_wide.Goals as goal

@@ -1,8 +1,7 @@
 -- `board::distance::near_table` meets its contract: the cells below e are put. Assumes nothing.
-use Prim.Native.Nat.{◌-◌}
 use mathlib.Core.Path.{◌∙◌}
 use native.Mathlib.Omega.{arith}
-use Rattle.board.proofs.code.Filling.{Filled, none_filled, one_filled, all_filled}
+use Rattle.board.proofs.code.Filling.{none_filled, one_filled, all_filled}
 use Rattle.board.proofs.distance.near_table.Goals as goal
 
 pub cell_count-n-requires : goal.cell_count-n-requires

@@ -1,8 +1,6 @@
 -- The invariants and measures of `distance.near_table`. Assumes nothing.
 use Prim.Native.Nat.{◌-◌}
-use mathlib.Core.Path.{◌∙◌}
-use native.Mathlib.Omega.{arith}
-use Rattle.board.proofs.code.Filling.{Filled, none_filled, one_filled, all_filled}
+use Rattle.board.proofs.code.Filling.{Filled}
 use Rattle.board.proofs.distance.near_table.Given as goal
 
 abbrev pub invariant-loop-e : goal.invariant-loop-e

@@ -1,7 +1,5 @@
 -- `board::distance::put_near` meets its contract: what the trays below v add is put. Assumes nothing.
-use Prim.Native.Nat.{◌*◌, ◌-◌, ◌≤◌}
 use native.Mathlib.Omega.{arith}
-use Rattle.board.specs.Distance.{tray_distance, RunPut}
 use Rattle.board.proofs.theory.Sides.{cells-within}
 use Rattle.board.proofs.code.Filling.{none-put, one-put, all-put}
 use Rattle.board.proofs.distance.put_near.Goals as goal

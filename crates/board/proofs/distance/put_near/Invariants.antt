@@ -1,9 +1,6 @@
 -- The invariants and measures of `distance.put_near`. Assumes nothing.
 use Prim.Native.Nat.{◌*◌, ◌-◌, ◌≤◌}
-use native.Mathlib.Omega.{arith}
 use Rattle.board.specs.Distance.{tray_distance, RunPut}
-use Rattle.board.proofs.theory.Sides.{cells-within}
-use Rattle.board.proofs.code.Filling.{none-put, one-put, all-put}
 use Rattle.board.proofs.distance.put_near.Given as goal
 
 abbrev pub invariant-loop-v : goal.invariant-loop-v

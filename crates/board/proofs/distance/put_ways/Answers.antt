@@ -1,7 +1,6 @@
 -- `board::distance::put_ways` meets its contract: the ways below k are put. Assumes nothing.
-use Prim.Native.Nat.{◌+◌, ◌*◌, ◌-◌, ◌/◌, ◌%◌, ◌≤◌}
+use Prim.Native.Nat.{◌/◌, ◌%◌}
 use native.Mathlib.Omega.{arith}
-use Rattle.board.specs.Distance.{way_at, RunPut}
 use Rattle.board.proofs.theory.Sides.{cells-within}
 use Rattle.board.proofs.theory.Ways.{way-inside}
 use Rattle.board.proofs.code.Filling.{none-put, one-put, all-put}

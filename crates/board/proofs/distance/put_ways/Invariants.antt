@@ -1,10 +1,6 @@
 -- The invariants and measures of `distance.put_ways`. Assumes nothing.
-use Prim.Native.Nat.{◌+◌, ◌*◌, ◌-◌, ◌/◌, ◌%◌, ◌≤◌}
-use native.Mathlib.Omega.{arith}
+use Prim.Native.Nat.{◌+◌, ◌*◌, ◌-◌, ◌≤◌}
 use Rattle.board.specs.Distance.{way_at, RunPut}
-use Rattle.board.proofs.theory.Sides.{cells-within}
-use Rattle.board.proofs.theory.Ways.{way-inside}
-use Rattle.board.proofs.code.Filling.{none-put, one-put, all-put}
 use Rattle.board.proofs.distance.put_ways.Given as goal
 
 abbrev pub invariant-loop-k : goal.invariant-loop-k

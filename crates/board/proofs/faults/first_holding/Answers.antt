@@ -1,14 +1,7 @@
 -- `board::faults::first_holding` meets its contract: the loop looks for the first cell that holds x. Assumes nothing.
-use Prim.Native.Nat.{ℕ, ◌-◌}
-use mathlib.Core.List.{List}
-use mathlib.Core.Bool.{Bool}
-use native.Mathlib.Omega.{arith}
-use lib.Dec.{eqb}
 use borrow.Author.Tests.{eq-eqb, ne_eqb}
-use Rattle.board.specs.Board.{at}
 use Rattle.board.specs.Faults.{first_holding}
-use Rattle.board.proofs.code.FirstLoop.{Looking, begin, further, here, nowhere}
-use Rattle.board.proofs.faults.first_holding.Invariants.{test}
+use Rattle.board.proofs.code.FirstLoop.{begin, further, here, nowhere}
 use Rattle.board.proofs.faults.first_holding.Goals as goal
 
 pub loop-i-init : goal.loop-i-init

@@ -2,12 +2,9 @@
 use Prim.Native.Nat.{ℕ, ◌-◌}
 use mathlib.Core.List.{List}
 use mathlib.Core.Bool.{Bool}
-use native.Mathlib.Omega.{arith}
 use lib.Dec.{eqb}
-use borrow.Author.Tests.{eq-eqb, ne_eqb}
 use Rattle.board.specs.Board.{at}
-use Rattle.board.specs.Faults.{first_holding}
-use Rattle.board.proofs.code.FirstLoop.{Looking, begin, further, here, nowhere}
+use Rattle.board.proofs.code.FirstLoop.{Looking}
 use Rattle.board.proofs.faults.first_holding.Given as goal
 
 abbrev pub test : List ℕ → ℕ → ℕ → Bool

@@ -1,9 +1,7 @@
 -- `board::faults::first_repeat` meets its contract: the loop looks for the first cell that repeats an earlier one. Assumes nothing.
-use Prim.Native.Nat.{◌-◌}
-use native.Mathlib.Omega.{arith}
 use borrow.Author.Tests.{lt-ltb, le-ltb}
 use Rattle.board.specs.Faults.{repeats, first_repeat}
-use Rattle.board.proofs.code.FirstLoop.{Looking, begin, further, here, nowhere}
+use Rattle.board.proofs.code.FirstLoop.{begin, further, here, nowhere}
 use Rattle.board.proofs.faults.first_repeat.Goals as goal
 
 pub loop-cell-init : goal.loop-cell-init

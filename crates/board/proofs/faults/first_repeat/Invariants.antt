@@ -1,9 +1,7 @@
 -- The invariants and measures of `faults.first_repeat`. Assumes nothing.
 use Prim.Native.Nat.{◌-◌}
-use native.Mathlib.Omega.{arith}
-use borrow.Author.Tests.{lt-ltb, le-ltb}
-use Rattle.board.specs.Faults.{repeats, first_repeat}
-use Rattle.board.proofs.code.FirstLoop.{Looking, begin, further, here, nowhere}
+use Rattle.board.specs.Faults.{repeats}
+use Rattle.board.proofs.code.FirstLoop.{Looking}
 use Rattle.board.proofs.faults.first_repeat.Given as goal
 
 abbrev pub invariant-loop-cell : goal.invariant-loop-cell

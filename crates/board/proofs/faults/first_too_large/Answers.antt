@@ -1,15 +1,7 @@
 -- `board::faults::first_too_large` meets its contract: the loop looks for the first byte that is n or more. Assumes nothing.
-use Prim.Native.Nat.{ℕ, ◌-◌}
-use mathlib.Core.List.{List}
-use mathlib.Core.Bool.{Bool}
-use native.Mathlib.Omega.{arith}
-use lib.Dec.{leb}
-use borrow.Author.Rules.{rules}
 use borrow.Author.Tests.{le-leb, lt-leb}
-use Rattle.board.specs.Board.{at}
 use Rattle.board.specs.Faults.{first_too_large}
-use Rattle.board.proofs.code.FirstLoop.{Looking, begin, further, here, nowhere}
-use Rattle.board.proofs.faults.first_too_large.Invariants.{test}
+use Rattle.board.proofs.code.FirstLoop.{begin, further, here, nowhere}
 use Rattle.board.proofs.faults.first_too_large.Goals as goal
 
 pub loop-i-init : goal.loop-i-init

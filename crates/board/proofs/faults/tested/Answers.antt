@@ -1,6 +1,5 @@
 -- `board::faults::tested` meets its contract: test 1 of each side, and then what `tested_cells` says. Assumes nothing.
 use mathlib.Core.Path.{◌∙◌, sym}
-use borrow.Author.Rules.{rules}
 use Rattle.board.specs.Tests.{first_refusal}
 use Rattle.board.specs.Faults.{fault_tests, said_of, tested}
 use Rattle.board.proofs.theory.Sides.{passing_side}

@@ -1,6 +1,5 @@
 -- `board::faults::tested_cells` meets its contract: each way out has the tests that it passed. Assumes nothing.
 use native.Mathlib.Omega.{arith}
-use borrow.Author.Rules.{rules}
 use borrow.Author.Tests.{eq-eqb, ne_eqb, lt-ltb, le-ltb}
 use Rattle.board.specs.Tests.{first_refusal}
 use Rattle.board.specs.Faults.{fault_tests, said_of, tested}

@@ -1,6 +1,5 @@
 -- `board::held::cell_count` meets its contract: a good shape has at most 16 cells. Assumes nothing.
 use native.Mathlib.Omega.{arith}
-use borrow.Author.Rules.{rules}
 use Rattle.board.proofs.theory.Sides.{cells-within}
 use Rattle.board.proofs.held.cell_count.Goals as goal
 

@@ -11,7 +11,7 @@ use Rattle.board.specs.Shape.{cells, GoodShape}
 use Rattle.board.specs.Board.{at, IsBoard, empty_cell}
 use Rattle.board.specs.Faults.{first_holding}
 use Rattle.board.specs.Digits.{digits}
-use Rattle.board.specs.Held.{held, Taken}
+use Rattle.board.specs.Held.{Taken}
 use Rattle.board.proofs.theory.Sides.{cells-within}
 use Rattle.board.proofs.theory.Digits.{word, packed, Small, packed-below, packed-word, digits-packed}
 use Rattle.board.proofs.code.Sliding.{board-small}

@@ -1,5 +1,4 @@
 -- `board::held::number_at` meets its contract: the shift and the remainder are the digit. Assumes nothing.
-use borrow.Author.Rules.{rules}
 use Rattle.board.proofs.theory.Digits.{shifted_right}
 use Rattle.board.proofs.held.number_at.Goals as goal
 

@@ -1,7 +1,6 @@
 -- `board::moves::change_to` meets its contract: the table's two entries for the tray that slides tell the change. Assumes nothing.
 use mathlib.Core.Path.{◌∙◌}
 use native.Mathlib.Omega.{arith}
-use borrow.Author.Rules.{rules}
 use Rattle.board.specs.Held.{held}
 use Rattle.board.proofs.theory.Sides.{cells-within}
 use Rattle.board.proofs.theory.Changes.{read_as, to-one_step}

@@ -2,7 +2,6 @@
 use Prim.Native.Nat.{ℕ, ◌*◌, ◌-◌, ◌%◌, ◌≤◌, ◌<◌}
 use mathlib.Core.Path.{◌≡◌}
 use native.Mathlib.Omega.{arith}
-use borrow.Author.Rules.{rules}
 use Rattle.board.specs.Shape.{Side, two, three, four}
 use Rattle.board.proofs.theory.Sides.{side_within}
 use Rattle.board.proofs.moves.column_of.Goals as goal

@@ -2,7 +2,6 @@
 use Prim.Native.Nat.{ℕ, ◌+◌, ◌-◌, ◌*◌, ◌/◌, ◌%◌, ◌^◌, ◌≤◌, ◌<◌}
 use mathlib.Core.Path.{◌≡◌, refl, ap, ◌∙◌}
 use native.Mathlib.Omega.{arith}
-use borrow.Author.Rules.{rules}
 use Rattle.board.specs.declared.Position.{Position}
 use Rattle.board.specs.Digits.{digit}
 use Rattle.board.specs.Held.{Slides}

@@ -7,7 +7,7 @@ use native.Mathlib.Omega.{arith}
 use lib.Dec.{leb, ltb}
 use borrow.Author.Tests.{lt-ltb, le-ltb, leb-true, leb-false, ltb-true, ltb-false}
 use Rattle.board.specs.declared.Shape.{Shape}
-use Rattle.board.specs.Shape.{cells, Side, two, three, four}
+use Rattle.board.specs.Shape.{Side, two, three, four}
 use Rattle.board.specs.Moves.{stays_on}
 use Rattle.board.proofs.theory.Sides.{side_within, cells-within, few_widths, cell-column}
 use Rattle.board.proofs.moves.stays_on.Goals as goal

@@ -1,7 +1,6 @@
 -- `board::moves::way` meets its contract: it is the table's entry for the cell and the two moves. Assumes nothing.
 use mathlib.Core.Path.{◌∙◌}
 use native.Mathlib.Omega.{arith}
-use borrow.Author.Rules.{rules}
 use Rattle.board.proofs.theory.Sides.{cells-within}
 use Rattle.board.proofs.theory.Changes.{way_looked_up}
 use Rattle.board.proofs.moves.way.Goals as goal

@@ -1,6 +1,5 @@
 -- `board::moves::way_entry` meets its contract: its tests are those of the definition. Assumes nothing.
 use mathlib.Core.Path.{sym, ◌∙◌}
-use borrow.Author.Rules.{rules}
 use borrow.Author.Tests.{eq-eqb, ne_eqb}
 use Rattle.board.proofs.theory.Ways.{way_on, way_off, way_back}
 use Rattle.board.proofs.moves.way_entry.Goals as goal

@@ -5,10 +5,9 @@ use mathlib.Core.Path.{◌≡◌, sym, subst}
 use mathlib.Core.List.{List}
 use native.Mathlib.Omega.{arith}
 use lib.ListN.{length, take}
-use borrow.Author.Rules.{rules}
 use Rattle.board.specs.Board.{at}
 use Rattle.board.specs.Order.{FewExchanges}
-use Rattle.board.proofs.code.Cycles.{Following, turns_left, few-turns, in_hand, taken_in_hand, first-turn, ends}
+use Rattle.board.proofs.code.Cycles.{turns_left, few-turns, in_hand, taken_in_hand, first-turn, ends}
 use Rattle.board.proofs.code.Cycles.{home_below, home-turn, home-less, exchange-turn, exchange-less}
 use Rattle.board.proofs.parity.exchanges.Goals as goal
 

@@ -5,7 +5,6 @@ use native.Mathlib.Omega.{arith}
 use lib.Dec.{eqb}
 use Rattle.board.specs.declared.Shape.{Shape}
 use Rattle.board.specs.declared.Position.{Position}
-use Rattle.board.specs.Shape.{cells}
 use Rattle.board.specs.Parity.{inversions, parity_sum, is_odd}
 use Rattle.board.specs.Order.{FewExchanges}
 use Rattle.board.specs.Held.{held, Holds}

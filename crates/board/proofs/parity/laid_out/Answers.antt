@@ -1,10 +1,10 @@
 -- `board::parity::laid_out` meets its contract: the loop has copied the cells below i. Assumes nothing.
-use Prim.Native.Nat.{ℕ, ◌+◌, ◌-◌, ◌≤◌, ◌<◌}
-use mathlib.Core.Path.{◌≡◌, refl, sym, ap, subst, ◌∙◌}
+use Prim.Native.Nat.{ℕ, ◌+◌, ◌≤◌, ◌<◌}
+use mathlib.Core.Path.{◌≡◌, refl, sym, subst, ◌∙◌}
 use mathlib.Core.List.{List}
 use native.Mathlib.Omega.{arith}
 use native.Mathlib.Nat.{lt_irrefl}
-use lib.ListN.{length, set, take, length-set}
+use lib.ListN.{set, take, length-set}
 use lib.Seq.{get_or-set_same, get_or-set_other, get_or-take, length-take-le, ext_get_or}
 use borrow.Author.Count.{below_more}
 use Rattle.board.specs.Board.{at}

@@ -1,16 +1,10 @@
 -- The invariants and measures of `parity.laid_out`. Assumes nothing.
-use Prim.Native.Nat.{ℕ, ◌+◌, ◌-◌, ◌≤◌, ◌<◌}
-use mathlib.Core.Path.{◌≡◌, refl, sym, ap, subst, ◌∙◌}
+use Prim.Native.Nat.{ℕ, ◌-◌, ◌≤◌, ◌<◌}
+use mathlib.Core.Path.{◌≡◌}
 use mathlib.Core.List.{List}
-use native.Mathlib.Omega.{arith}
-use native.Mathlib.Nat.{lt_irrefl}
-use lib.ListN.{length, set, take, length-set}
-use lib.Seq.{get_or-set_same, get_or-set_other, get_or-take, length-take-le, ext_get_or}
-use borrow.Author.Count.{below_more}
+use lib.ListN.{length}
 use Rattle.board.specs.Board.{at}
-use Rattle.board.specs.Digits.{digits, digit}
-use Rattle.board.proofs.theory.Sides.{cells-within}
-use Rattle.board.proofs.theory.Digits.{length_digits, at-digits}
+use Rattle.board.specs.Digits.{digit}
 use Rattle.board.proofs.parity.laid_out.Given as goal
 
 -- the entries below i are the digits of x

@@ -1,11 +1,8 @@
 -- The invariants and measures of `planning.clear`. Assumes nothing.
-use Prim.Native.Nat.{ℕ, ◌+◌, ◌-◌, ◌≤◌, ◌<◌}
-use mathlib.Core.Path.{◌≡◌, ap, ◌∙◌}
-use mathlib.Core.List.{List, ◌++◌, append-nil}
-use native.Mathlib.Omega.{arith}
-use lib.ListN.{length, set, drop, replicate, length-append, length-set, length-drop, length-replicate}
-use lib.Seq.{drop-length}
-use borrow.Author.Fill.{fill_none, fill_more}
+use Prim.Native.Nat.{ℕ, ◌-◌, ◌≤◌}
+use mathlib.Core.Path.{◌≡◌}
+use mathlib.Core.List.{List, ◌++◌}
+use lib.ListN.{length, drop, replicate}
 use Rattle.lowpengine.proofs.planning.clear.Given as goal
 
 pub record Clearing (found bytes : List ℕ) (i : ℕ) : Type 0 where

@@ -1,6 +1,5 @@
 -- `lowpengine::planning::numbers_used` meets its contract: four for each depth where the search was run, and none otherwise.
 -- Assumes nothing.
-use borrow.Author.Rules.{rules}
 use Prim.Native.Nat.{ℕ, ◌+◌, ◌*◌, ◌^◌, ◌<◌}
 use mathlib.Core.Path.{◌≡◌, sym, ap, ◌∙◌}
 use native.Mathlib.Omega.{arith}

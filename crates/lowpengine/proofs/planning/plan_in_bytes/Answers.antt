@@ -1,16 +1,12 @@
 -- `lowpengine::planning::plan_in_bytes` meets its contract: the planner's answer for the table's numbers (OwnTable), packed, and the
 -- bytes cleared where its numbers stand. Assumes nothing.
-use borrow.Author.Rules.{rules}
-use Prim.Native.Nat.{◌*◌, ◌≤◌}
-use mathlib.Core.Path.{◌≡◌, refl, sym, ap₂, ◌∙◌}
+use mathlib.Core.Path.{refl, sym, ap₂, ◌∙◌}
 use native.Mathlib.Omega.{arith}
-use lib.ListN.{length}
 use lib.Seq.{length-take-le}
 use mir.Syntax.{w32}
 use mir.ValLaws.{to_z-of_z}
-use Rattle.planner.specs.Answer.{Call, called, search_ran}
-use Rattle.lowpengine.specs.Bytes.{numbers, numbers_used}
-use Rattle.lowpengine.proofs.code.OwnTable.{Answered, by_own-table, fields-apart, bytes-within, all-given}
+use Rattle.lowpengine.specs.Bytes.{numbers_used}
+use Rattle.lowpengine.proofs.code.OwnTable.{by_own-table, fields-apart, bytes-within, all-given}
 use Rattle.lowpengine.proofs.planning.plan_in_bytes.Goals as goal
 
 pub slice_bounds-own-end : goal.slice_bounds-own-end

@@ -1,5 +1,4 @@
 -- `lowpengine::playing::detail` meets its contract: only a list that was played says yes, and what says no has its place. Assumes nothing.
-use borrow.Author.Rules.{rules}
 use mathlib.Core.Path.{◌≡◌, refl, sym, ap, ◌∙◌}
 use mathlib.Core.Bool.{true, false, true≢false}
 use Prim.Native.Nat.{min}

@@ -1,5 +1,4 @@
 -- `lowpengine::playing::packed_play` meets its contract: the number and the detail fit together. Assumes nothing.
-use borrow.Author.Rules.{rules}
 use native.Mathlib.Omega.{arith}
 use Rattle.lowpengine.proofs.theory.Sizes.{play_number, play-detail}
 use Rattle.lowpengine.proofs.playing.packed_play.Goals as goal

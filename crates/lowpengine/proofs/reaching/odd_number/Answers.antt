@@ -3,7 +3,6 @@ use mathlib.Core.Path.{◌≡◌, sym, ap, ◌∙◌}
 use mathlib.Core.Bool.{Bool, true, false, cond}
 use mathlib.Core.List.{List}
 use Prim.Native.Nat.{ℕ}
-use borrow.Author.Rules.{rules}
 use Rattle.board.specs.declared.Shape.{Shape}
 use Rattle.board.specs.Parity.{is_odd}
 use Rattle.lowpengine.specs.Packed.{odd_number}

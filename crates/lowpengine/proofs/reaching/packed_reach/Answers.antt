@@ -3,7 +3,6 @@
 use Prim.Native.Nat.{ℕ}
 use mathlib.Core.Path.{◌≡◌, sym, ◌∙◌}
 use mathlib.Core.List.{List}
-use borrow.Author.Rules.{rules}
 use Rattle.board.specs.declared.Shape.{Shape}
 use Rattle.board.specs.declared.Fault.{Fault}
 use Rattle.board.specs.declared.Tested.TheVariants.{Sound, Faulty}

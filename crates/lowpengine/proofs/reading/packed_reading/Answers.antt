@@ -1,5 +1,4 @@
 -- `lowpengine::reading::packed_reading` meets its contract: the number and the detail fit together. Assumes nothing.
-use borrow.Author.Rules.{rules}
 use native.Mathlib.Omega.{arith}
 use Rattle.lowpengine.proofs.theory.Sizes.{reading-number, reading-detail}
 use Rattle.lowpengine.proofs.reading.packed_reading.Goals as goal

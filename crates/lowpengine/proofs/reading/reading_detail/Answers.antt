@@ -1,6 +1,5 @@
 -- `lowpengine::reading::reading_detail` meets its contract: a record that was read has its numbers, and a refusal its place. Assumes
 -- nothing.
-use borrow.Author.Rules.{rules}
 use mathlib.Core.Path.{◌≡◌, refl, sym, ap, ◌∙◌}
 use Prim.Native.Nat.{min}
 use Rattle.records.specs.declared.ReadRefusal.{ReadRefusal}

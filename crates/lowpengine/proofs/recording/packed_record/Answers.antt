@@ -1,5 +1,4 @@
 -- `lowpengine::recording::packed_record` meets its contract: the number and the detail fit together. Assumes nothing.
-use borrow.Author.Rules.{rules}
 use native.Mathlib.Omega.{arith}
 use Rattle.lowpengine.proofs.theory.Sizes.{record_number, record-detail}
 use Rattle.lowpengine.proofs.recording.packed_record.Goals as goal

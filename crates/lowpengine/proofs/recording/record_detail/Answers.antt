@@ -1,5 +1,4 @@
 -- `lowpengine::recording::record_detail` meets its contract: a record has its length, and a refusal its place. Assumes nothing.
-use borrow.Author.Rules.{rules}
 use mathlib.Core.Path.{◌≡◌, refl, sym, ap, ◌∙◌}
 use Prim.Native.Nat.{min}
 use Rattle.records.specs.declared.PlanRefusal.{PlanRefusal}

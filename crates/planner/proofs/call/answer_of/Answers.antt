@@ -1,5 +1,4 @@
 -- `planner::call::answer_of` meets its contract: one answer for each end of the search. Assumes nothing.
-use borrow.Author.Rules.{rules}
 use mathlib.Core.Path.{subst, sym, ap}
 use native.Mathlib.Omega.{arith}
 use Rattle.planner.specs.Ends.{LeftWithin, answer_of}

@@ -1,6 +1,5 @@
 -- `planner::call::plan` meets its contract: tests 1 to 4 are the board part's, and what follows is `plan_board`. In each answer `sound` is
 -- where the shape was told, and `board` where `tested` had answered. Assumes nothing.
-use borrow.Author.Rules.{rules}
 use mathlib.Core.Path.{sym, ◌∙◌}
 use mir.Syntax.{w32}
 use mir.ValLaws.{to_z-of_z}

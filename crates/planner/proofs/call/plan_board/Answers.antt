@@ -1,7 +1,6 @@
 -- `planner::call::plan_board` meets its contract: tests 5 to 7 and 15 are `measured`, and what follows is `plan_within`. In each answer
 -- `entry` is where the call began and `limits` where `measured` had answered; the ceiling is handed on through its bits, which changes
 -- nothing. Assumes nothing.
-use borrow.Author.Rules.{rules}
 use mathlib.Core.Path.{sym, ◌∙◌}
 use Rattle.planner.proofs.code.Testing.{measured-back, refused_limit, of_terms, terms_kept}
 use Rattle.planner.proofs.call.plan_board.Goals as goal

@@ -1,5 +1,4 @@
 -- `planner::call::plan_short` meets its contract: it is the call with the short call's weight. Assumes nothing.
-use borrow.Author.Rules.{rules}
 use mir.Syntax.{w32}
 use mir.ValLaws.{to_z-of_z}
 use Rattle.planner.proofs.code.Testing.{same-ceiling}

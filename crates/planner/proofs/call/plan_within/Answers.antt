@@ -1,6 +1,5 @@
 -- `planner::call::plan_within` meets its contract: each way out has the tests that it passed. In each answer `entry` is where the call
 -- began, `short` where test 8 failed and `even` where test 9 failed. Assumes nothing.
-use borrow.Author.Rules.{rules}
 use mathlib.Core.Path.{ap, sym, ◌∙◌}
 use Rattle.board.specs.Parity.{is_odd}
 use Rattle.planner.proofs.code.Testing.{told, ceiling-low, refused-short, refused-odd, all-passed, small-job, room-passed}

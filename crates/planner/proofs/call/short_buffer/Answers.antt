@@ -1,5 +1,4 @@
 -- `planner::call::short_buffer` meets its contract: each way out has the test that it comes by. Assumes nothing.
-use borrow.Author.Rules.{rules}
 use borrow.Author.Tests.{lt-ltb, le-ltb}
 use Rattle.planner.specs.Answer.{short_buffer}
 use Rattle.planner.proofs.call.short_buffer.Goals as goal

@@ -1,5 +1,4 @@
 -- `planner::limits::divides_both` meets its contract: each way out has the test that it comes by. Assumes nothing.
-use borrow.Author.Rules.{rules}
 use borrow.Author.Tests.{eq-eqb, ne_eqb}
 use Rattle.planner.specs.Limits.{divides_both}
 use Rattle.planner.proofs.limits.divides_both.Goals as goal

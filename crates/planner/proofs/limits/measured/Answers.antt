@@ -1,6 +1,5 @@
 -- `planner::limits::measured` meets its contract: each way out has the tests that it passed. The ceiling is handed on through its bits,
 -- which changes nothing. Assumes nothing.
-use borrow.Author.Rules.{rules}
 use mathlib.Core.Path.{ap, ◌∙◌}
 use mir.Syntax.{w32}
 use mir.ValLaws.{to_z-of_z}

@@ -1,10 +1,8 @@
 -- `planner::limits::shares_divisor` meets its contract: the loop looks for a number from 2 on that divides both. Assumes nothing.
-use Prim.Native.Nat.{ℕ, suc, ◌-◌}
 use native.Mathlib.Omega.{arith}
-use borrow.Author.Rules.{rules}
 use Rattle.planner.proofs.theory.Passing.{weight-passes}
 use Rattle.planner.proofs.code.Testing.{told}
-use Rattle.planner.proofs.code.Dividing.{Sought, begin, further, found, nowhere}
+use Rattle.planner.proofs.code.Dividing.{begin, further, found, nowhere}
 use Rattle.planner.proofs.limits.shares_divisor.Goals as goal
 
 pub loop-d-init : goal.loop-d-init

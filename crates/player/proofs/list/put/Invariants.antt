@@ -1,13 +1,9 @@
 -- The invariants and measures of `list.put`. Assumes nothing.
-use Prim.Native.Nat.{ℕ, suc, ◌+◌, ◌-◌, ◌≤◌, ◌<◌}
-use mathlib.Core.Path.{◌≡◌, refl, sym, ap, ◌∙◌}
+use Prim.Native.Nat.{ℕ, ◌-◌, ◌≤◌}
+use mathlib.Core.Path.{◌≡◌}
 use mathlib.Core.List.{List, ◌++◌}
-use native.Mathlib.Omega.{arith}
-use native.Mathlib.Numerals.{add-one}
-use lib.ListN.{length, take, drop, set, get_or, length-append, length-take, length-drop}
-use lib.Seq.{take-suc, take_all, drop-cons, append_snoc, set_at, length-take-le}
+use lib.ListN.{length, take, drop}
 use Rattle.board.specs.Digits.{digits}
-use Rattle.board.proofs.Laws.{cells-within, length_digits, at-digits}
 use Rattle.player.proofs.list.put.Given as goal
 
 -- the first i of the cells l, in front of what was found after them

@@ -1,6 +1,6 @@
 -- `player::list::run` meets its contract: the moves passed are good, and the position holds the board that they end at,
 -- with its distance. Assumes nothing.
-use Prim.Native.Nat.{ℕ, ◌+◌, ◌-◌, ◌≤◌, ◌<◌}
+use Prim.Native.Nat.{ℕ, ◌+◌, ◌≤◌, ◌<◌}
 use mathlib.Core.Path.{◌≡◌, refl, sym, ap, ap₂, subst, ◌∙◌}
 use mathlib.Core.Bool.{Bool, true, false, not}
 use mathlib.Core.List.{List}
@@ -8,7 +8,6 @@ use native.Mathlib.Omega.{arith}
 use native.Mathlib.Numerals.{add-one}
 use lib.IntN.{pos, ◌+ℤ◌}
 use lib.ListN.{length, take, get_or}
-use borrow.Author.Rules.{rules}
 use borrow.Author.Count.{below_more}
 use Rattle.board.specs.declared.Shape.{Shape}
 use Rattle.board.specs.declared.Position.{Position}
@@ -16,7 +15,7 @@ use Rattle.board.specs.declared.Moved.{Moved}
 use Rattle.board.specs.Moves.{legal, after}
 use Rattle.board.specs.Lists.{end_board}
 use Rattle.board.specs.Held.{held, Taken}
-use Rattle.board.specs.Change.{MovedBy, Kept}
+use Rattle.board.specs.Change.{MovedBy}
 use Rattle.board.proofs.Laws.{first_of_found, first_of_none, read_back, leads_on, kept_on}
 use Rattle.player.specs.Play.{bad_at, first_bad}
 use Rattle.player.specs.Run.{RanAs}

@@ -3,7 +3,6 @@ use borrow.Author.Tests.{lt-ltb, le-ltb}
 use Rattle.board.specs.Tests.{first_refusal}
 use Rattle.records.specs.Read.{end_tests}
 use Rattle.records.proofs.code.Reading.{end_whole, end_wrong}
-use borrow.Author.Rules.{rules}
 use Rattle.records.proofs.ends.ended_at.Goals as goal
 
 pub returns-then-bytes-end : goal.returns-then-bytes-end

@@ -3,7 +3,6 @@ use Prim.Native.Nat.{◌+◌}
 use native.Mathlib.Omega.{arith}
 use borrow.Author.Tests.{eq-eqb, ne_eqb}
 use Rattle.records.specs.Read.{mark_stands}
-use borrow.Author.Rules.{rules}
 use Rattle.records.proofs.ends.mark_stands.Goals as goal
 
 pub overflow_cast-bytes : goal.overflow_cast-bytes

@@ -1,11 +1,10 @@
 -- `groups::group_count` meets its contract. The invariant: the groups counted and those still to be counted are all groups.
 -- Assumes nothing.
-use Prim.Native.Nat.{◌+◌}
 use native.Mathlib.Omega.{arith}
 use borrow.Author.Rules.{rules}
 use mathlib.Core.Path.{◌≡◌, ap}
 use lib.ListN.{length}
-use Rattle.records.specs.Groups.{leading, groups}
+use Rattle.records.specs.Groups.{leading}
 use Rattle.records.proofs.theory.Grouping.{leading-none, leading-longer, groups-longer, groups_five}
 use Rattle.records.proofs.groups.group_count.Goals as goal
 

@@ -1,11 +1,8 @@
 -- The invariants and measures of `groups.group_count`. Assumes nothing.
 use Prim.Native.Nat.{◌+◌}
-use native.Mathlib.Omega.{arith}
-use borrow.Author.Rules.{rules}
-use mathlib.Core.Path.{◌≡◌, ap}
+use mathlib.Core.Path.{◌≡◌}
 use lib.ListN.{length}
 use Rattle.records.specs.Groups.{leading, groups}
-use Rattle.records.proofs.theory.Grouping.{leading-none, leading-longer, groups-longer, groups_five}
 use Rattle.records.proofs.groups.group_count.Given as goal
 
 abbrev pub invariant-loop-higher : goal.invariant-loop-higher

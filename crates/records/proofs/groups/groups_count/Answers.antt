@@ -1,13 +1,12 @@
 -- `groups::groups_count` meets its contract. The invariant: the first i numbers are counted, at most five groups each.
 -- Assumes nothing.
-use Prim.Native.Nat.{ℕ, suc, ◌+◌, ◌-◌, ◌<◌}
+use Prim.Native.Nat.{ℕ, suc, ◌+◌, ◌<◌}
 use native.Mathlib.Omega.{arith}
 use native.Mathlib.Numerals.{add-one}
 use mathlib.Core.Path.{◌≡◌, sym, ap}
 use mathlib.Core.List.{List}
 use lib.ListN.{length, take, get_or, length-append, length-take}
 use lib.Seq.{take-suc, take_all}
-use borrow.Author.Rules.{rules}
 use Rattle.records.specs.Groups.{groups}
 use Rattle.records.specs.Put.{Counted}
 use Rattle.records.proofs.theory.Grouping.{groups_five, spelled_none, spelled-next}

@@ -6,7 +6,6 @@ use mathlib.Core.Path.{◌≡◌, refl, sym, ap, ◌∙◌}
 use mathlib.Core.List.{List, [], ◌∷◌, ◌++◌, append_assoc, append-nil}
 use lib.ListN.{length, set, length-append}
 use lib.Seq.{sets, length-sets}
-use borrow.Author.Rules.{rules}
 use Rattle.records.specs.Groups.{leading, groups}
 use Rattle.records.specs.Put.{Put}
 use Rattle.records.proofs.theory.Grouping.{leading-none, leading-more, leading-longer, groups_are, groups-longer}

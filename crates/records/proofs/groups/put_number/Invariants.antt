@@ -1,15 +1,10 @@
 -- The invariants and measures of `groups.put_number`. Assumes nothing.
-use Prim.Native.Nat.{ℕ, suc, ◌+◌, ◌-◌, ◌/◌, ◌%◌, ◌≤◌, ◌<◌}
-use native.Mathlib.Omega.{arith}
-use mathlib.Core.Path.{◌≡◌, refl, sym, ap, ◌∙◌}
-use mathlib.Core.List.{List, [], ◌∷◌, ◌++◌, append_assoc, append-nil}
-use lib.ListN.{length, set, length-append}
-use lib.Seq.{sets, length-sets}
-use borrow.Author.Rules.{rules}
-use Rattle.records.specs.Groups.{leading, groups}
-use Rattle.records.specs.Put.{Put}
-use Rattle.records.proofs.theory.Grouping.{leading-none, leading-more, leading-longer, groups_are, groups-longer}
-use Rattle.records.proofs.code.Storing.{store_before, put_then, put-length}
+use Prim.Native.Nat.{ℕ, ◌+◌, ◌/◌}
+use mathlib.Core.Path.{◌≡◌}
+use mathlib.Core.List.{List, ◌++◌}
+use lib.ListN.{length}
+use lib.Seq.{sets}
+use Rattle.records.specs.Groups.{leading}
 use Rattle.records.proofs.groups.put_number.Given as goal
 
 -- the loop: the groups of the rest are still to be put before the place, and the other leading groups stand from there on

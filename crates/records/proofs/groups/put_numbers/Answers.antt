@@ -1,12 +1,7 @@
 -- `groups::put_numbers` meets its contract. The invariant: the first i numbers are put. Assumes nothing.
-use Prim.Native.Nat.{◌-◌}
 use native.Mathlib.Omega.{arith}
 use native.Mathlib.Numerals.{add-one}
-use lib.ListN.{length, take}
 use lib.Seq.{take_all}
-use borrow.Author.Rules.{rules}
-use Rattle.records.specs.Groups.{spelled}
-use Rattle.records.specs.Put.{Put}
 use Rattle.records.proofs.theory.Grouping.{spelled_none, spelled-next, spelled-within}
 use Rattle.records.proofs.code.Storing.{put-none, put_then, put-length}
 use Rattle.records.proofs.groups.put_numbers.Goals as goal

@@ -1,14 +1,8 @@
 -- The invariants and measures of `groups.put_numbers`. Assumes nothing.
 use Prim.Native.Nat.{◌-◌}
-use native.Mathlib.Omega.{arith}
-use native.Mathlib.Numerals.{add-one}
 use lib.ListN.{length, take}
-use lib.Seq.{take_all}
-use borrow.Author.Rules.{rules}
 use Rattle.records.specs.Groups.{spelled}
 use Rattle.records.specs.Put.{Put}
-use Rattle.records.proofs.theory.Grouping.{spelled_none, spelled-next, spelled-within}
-use Rattle.records.proofs.code.Storing.{put-none, put_then, put-length}
 use Rattle.records.proofs.groups.put_numbers.Given as goal
 
 abbrev pub invariant-loop-i : goal.invariant-loop-i

@@ -1,11 +1,10 @@
 -- `mark::mark_before` meets its contract. The invariant: the mark is that of the first i bytes. Assumes nothing.
-use Prim.Native.Nat.{ℕ, ◌+◌, ◌-◌, ◌≤◌, ◌<◌}
+use Prim.Native.Nat.{ℕ, ◌+◌, ◌≤◌, ◌<◌}
 use native.Mathlib.Omega.{arith}
 use native.Mathlib.Numerals.{add-one}
 use mathlib.Core.Path.{◌≡◌, sym, ap, ◌∙◌}
 use mathlib.Core.List.{List}
 use lib.ListN.{length, get_or, take}
-use borrow.Author.Rules.{rules}
 use Rattle.records.specs.Mark.{mark_step, mark}
 use Rattle.records.proofs.theory.Marks.{mark-none, mark-next}
 use Rattle.records.proofs.mark.mark_before.Invariants.{Marking}

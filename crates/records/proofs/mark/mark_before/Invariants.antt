@@ -1,13 +1,9 @@
 -- The invariants and measures of `mark.mark_before`. Assumes nothing.
-use Prim.Native.Nat.{ℕ, ◌+◌, ◌-◌, ◌≤◌, ◌<◌}
-use native.Mathlib.Omega.{arith}
-use native.Mathlib.Numerals.{add-one}
-use mathlib.Core.Path.{◌≡◌, sym, ap, ◌∙◌}
+use Prim.Native.Nat.{ℕ, ◌-◌, ◌≤◌}
+use mathlib.Core.Path.{◌≡◌}
 use mathlib.Core.List.{List}
-use lib.ListN.{length, get_or, take}
-use borrow.Author.Rules.{rules}
-use Rattle.records.specs.Mark.{mark_step, mark}
-use Rattle.records.proofs.theory.Marks.{mark-none, mark-next}
+use lib.ListN.{take}
+use Rattle.records.specs.Mark.{mark}
 use Rattle.records.proofs.mark.mark_before.Given as goal
 
 -- the loop at place i

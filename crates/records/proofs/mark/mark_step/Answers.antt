@@ -1,5 +1,4 @@
 -- `mark::mark_step` meets its contract: the byte taken in, and then the product. Assumes nothing.
-use borrow.Author.Rules.{rules}
 use Rattle.records.specs.Mark.{mark_step}
 use Rattle.records.proofs.mark.mark_step.Goals as goal
 

@@ -2,7 +2,6 @@
 use native.Mathlib.Omega.{arith}
 use lib.ListN.{length-set}
 use Rattle.records.proofs.code.Storing.{put_four}
-use borrow.Author.Rules.{rules}
 use Rattle.records.proofs.mark.put_mark.Goals as goal
 
 pub bounds-out-at-2 : goal.bounds-out-at-2

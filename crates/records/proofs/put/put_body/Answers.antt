@@ -2,7 +2,6 @@
 use native.Mathlib.Nat.{zero-add}
 use Rattle.records.specs.Record.{piece}
 use Rattle.records.proofs.code.Storing.{put_then, room-first, room-behind}
-use borrow.Author.Rules.{rules}
 use Rattle.records.proofs.put.put_body.Goals as goal
 
 pub put_piece-next-requires : goal.put_piece-next-requires

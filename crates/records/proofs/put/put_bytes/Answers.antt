@@ -1,10 +1,7 @@
 -- `put::put_bytes` meets its contract. The invariant: the first i bytes are put.
 -- Assumes nothing.
-use Prim.Native.Nat.{◌+◌, ◌-◌, ◌≤◌}
 use native.Mathlib.Omega.{arith}
 use mathlib.Core.Path.{refl}
-use lib.ListN.{length, take}
-use Rattle.records.specs.Put.{Put}
 use Rattle.records.proofs.code.Storing.{put-none, put_next, put_all, put-length}
 use Rattle.records.proofs.put.put_bytes.Goals as goal
 

@@ -1,10 +1,7 @@
 -- The invariants and measures of `put.put_bytes`. Assumes nothing.
 use Prim.Native.Nat.{◌+◌, ◌-◌, ◌≤◌}
-use native.Mathlib.Omega.{arith}
-use mathlib.Core.Path.{refl}
 use lib.ListN.{length, take}
 use Rattle.records.specs.Put.{Put}
-use Rattle.records.proofs.code.Storing.{put-none, put_next, put_all, put-length}
 use Rattle.records.proofs.put.put_bytes.Given as goal
 
 abbrev pub invariant-loop-i : goal.invariant-loop-i

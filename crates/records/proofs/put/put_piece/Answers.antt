@@ -1,7 +1,6 @@
 -- `put::put_piece` meets its contract: the numbers, and then the bytes behind them. Assumes nothing.
 use Rattle.records.specs.Groups.{spelled}
 use Rattle.records.proofs.code.Storing.{put_then, room-first, room-behind}
-use borrow.Author.Rules.{rules}
 use Rattle.records.proofs.put.put_piece.Goals as goal
 
 pub put_numbers-next-requires : goal.put_numbers-next-requires

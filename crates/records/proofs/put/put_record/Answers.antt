@@ -10,7 +10,6 @@ use Rattle.records.specs.Record.{pieces, sealed}
 use Rattle.records.specs.Put.{Put}
 use Rattle.records.proofs.theory.Marks.{sealed-length}
 use Rattle.records.proofs.code.Storing.{put_front, put_then, put-length}
-use borrow.Author.Rules.{rules}
 use Rattle.records.proofs.put.put_record.Goals as goal
 
 body-within : (bytes old : List ℕ) → length (sealed bytes) ≤ length old → length bytes ≤ length old

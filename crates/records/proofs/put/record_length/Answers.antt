@@ -2,7 +2,6 @@
 use native.Mathlib.Omega.{arith}
 use lib.ListN.{length-append}
 use Rattle.records.specs.Record.{sealed}
-use borrow.Author.Rules.{rules}
 use Rattle.records.proofs.put.record_length.Goals as goal
 
 pub returns : goal.returns

@@ -1,7 +1,6 @@
 -- `read::clamped` meets its contract. Assumes nothing.
 use borrow.Author.Tests.{lt-ltb, le-ltb}
 use Rattle.records.specs.Read.{clamped}
-use borrow.Author.Rules.{rules}
 use Rattle.records.proofs.read.clamped.Goals as goal
 
 pub returns-then-v-lt255 : goal.returns-then-v-lt255

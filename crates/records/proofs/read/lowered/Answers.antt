@@ -4,7 +4,6 @@ use mir.Syntax.{w32}
 use mir.ValLaws.{to_z_pos}
 use borrow.Author.Tests.{lt-ltb, le-ltb}
 use Rattle.records.specs.Read.{lowered}
-use borrow.Author.Rules.{rules}
 use Rattle.records.proofs.read.lowered.Goals as goal
 
 pub returns-then-ceiling-gt120 : goal.returns-then-ceiling-gt120

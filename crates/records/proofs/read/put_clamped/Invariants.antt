@@ -1,12 +1,8 @@
 -- The invariants and measures of `read.put_clamped`. Assumes nothing.
-use Prim.Native.Nat.{ℕ, ◌+◌, ◌-◌, ◌≤◌, ◌<◌}
-use native.Mathlib.Omega.{arith}
-use native.Mathlib.Numerals.{add-one}
-use borrow.Author.Rules.{rules}
-use mathlib.Core.Path.{◌≡◌, refl, sym, ap, ◌∙◌}
-use mathlib.Core.List.{List, [], ◌∷◌, ◌++◌, map}
-use lib.ListN.{length, take, set, get_or, length-set}
-use lib.Seq.{take-suc, take-suc-set, take_all}
+use Prim.Native.Nat.{◌-◌}
+use mathlib.Core.Path.{◌≡◌}
+use mathlib.Core.List.{map}
+use lib.ListN.{length, take}
 use Rattle.records.specs.Read.{clamped}
 use Rattle.records.proofs.read.put_clamped.Given as goal
 

@@ -2,7 +2,6 @@
 use mathlib.Core.Path.{sym, ◌∙◌}
 use Rattle.records.proofs.theory.Scanning.{side_means}
 use Rattle.records.proofs.code.Reading.{width-stops, width-goes}
-use borrow.Author.Rules.{rules}
 use Rattle.records.proofs.read.read.Goals as goal
 
 pub read_height-requires : goal.read_height-requires

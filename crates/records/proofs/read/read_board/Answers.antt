@@ -2,7 +2,6 @@
 use mathlib.Core.Path.{refl}
 use mathlib.Core.List.{[]}
 use Rattle.records.proofs.code.Reading.{lowered-back, board-refused, board-few, board-passed}
-use borrow.Author.Rules.{rules}
 use Rattle.records.proofs.read.read_board.Goals as goal
 
 pub read_fitting-requires : goal.read_fitting-requires

@@ -12,7 +12,6 @@ use Rattle.records.specs.declared.scan.Counted.TheVariants.{Next}
 use Rattle.records.specs.Read.{Filled}
 use Rattle.records.proofs.theory.Scanning.{numbers-count}
 use Rattle.records.proofs.code.Reading.{few_sides, prefix_fits, prefix_long, filled_size, filled_next, cells_stop, cells-go}
-use borrow.Author.Rules.{rules}
 use Rattle.records.proofs.read.read_cells.Goals as goal
 
 few-wide : {width height : ℕ} → Side width × Side height → width * height ≤ 16

@@ -3,7 +3,6 @@ use Prim.Native.Nat.{◌+◌, ◌-◌}
 use native.Mathlib.Omega.{arith}
 use mathlib.Core.List.{[]}
 use Rattle.records.proofs.code.Reading.{end_refused, end-inside, end-passed}
-use borrow.Author.Rules.{rules}
 use Rattle.records.proofs.read.read_end.Goals as goal
 
 pub returns-in-Faulty : goal.returns-in-Faulty

@@ -1,6 +1,5 @@
 -- `read::read_fitting` meets its contract: test 8, then the cells and behind them the moves. Assumes nothing.
 use Rattle.records.proofs.code.Reading.{room-refused, room-read}
-use borrow.Author.Rules.{rules}
 use Rattle.records.proofs.read.read_fitting.Goals as goal
 
 pub returns-then-out-board : goal.returns-then-out-board

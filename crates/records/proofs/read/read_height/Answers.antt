@@ -2,7 +2,6 @@
 use mathlib.Core.Path.{sym, ◌∙◌}
 use Rattle.records.proofs.theory.Scanning.{side_means}
 use Rattle.records.proofs.code.Reading.{height-stops, height-goes}
-use borrow.Author.Rules.{rules}
 use Rattle.records.proofs.read.read_height.Goals as goal
 
 pub read_cells-requires : goal.read_cells-requires

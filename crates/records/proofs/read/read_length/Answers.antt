@@ -1,7 +1,6 @@
 -- `read::read_length` meets its contract: the length, and then what stands behind the numbers. Assumes nothing.
 use mathlib.Core.Path.{sym, ◌∙◌}
 use Rattle.records.proofs.code.Reading.{length-stops, length-goes, numbers-read}
-use borrow.Author.Rules.{rules}
 use Rattle.records.proofs.read.read_length.Goals as goal
 
 pub read_end-requires : goal.read_end-requires

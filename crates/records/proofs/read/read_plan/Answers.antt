@@ -1,6 +1,5 @@
 -- `read::read_plan` meets its contract: ceiling, p, q and visits, and then the length. Assumes nothing.
 use Rattle.records.proofs.code.Reading.{plan-stops, plan-goes}
-use borrow.Author.Rules.{rules}
 use Rattle.records.proofs.read.read_plan.Goals as goal
 
 pub returns-in-Faulty : goal.returns-in-Faulty

@@ -6,7 +6,6 @@ use lib.ListN.{length, drop, replicate, length-map}
 use lib.Seq.{length-take-le}
 use Rattle.records.specs.Read.{CellsRead, clamped}
 use Rattle.records.proofs.code.Reading.{few-cells, prefix_fits, prefix_long, of-bytes}
-use borrow.Author.Rules.{rules}
 use Rattle.records.proofs.read.read_sealed.Goals as goal
 
 few : {width height : ℕ} {cells : List ℕ} → CellsRead width height cells → length cells ≤ 16

@@ -2,7 +2,6 @@
 use mathlib.Core.Path.{sym, ap}
 use Rattle.records.specs.Scan.{as_length}
 use Rattle.records.proofs.theory.Scanning.{length-bad, length_taken}
-use borrow.Author.Rules.{rules}
 use Rattle.records.proofs.scan.as_length.Goals as goal
 
 pub returns-then-value-gt120 : goal.returns-then-value-gt120

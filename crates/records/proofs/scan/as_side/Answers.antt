@@ -2,7 +2,6 @@
 use mathlib.Core.Path.{sym, ap, ◌∙◌}
 use Rattle.records.specs.Scan.{as_side}
 use Rattle.records.proofs.theory.Scanning.{side_bad, side_taken}
-use borrow.Author.Rules.{rules}
 use Rattle.records.proofs.scan.as_side.Goals as goal
 
 pub returns-then-bad_side : goal.returns-then-bad_side

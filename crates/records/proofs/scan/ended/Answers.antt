@@ -1,7 +1,6 @@
 -- `scan::ended` meets its contract: a value of 32 bits, or none. Assumes nothing.
 use mathlib.Core.Path.{sym}
 use Rattle.records.proofs.theory.Scanning.{ended-whole, ended_over}
-use borrow.Author.Rules.{rules}
 use Rattle.records.proofs.scan.ended.Goals as goal
 
 pub returns-then-value-lt4294967296 : goal.returns-then-value-lt4294967296

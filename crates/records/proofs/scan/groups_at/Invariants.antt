@@ -1,16 +1,8 @@
 -- The invariants and measures of `scan.groups_at`. Assumes nothing.
-use Prim.Native.Nat.{ℕ, zero, suc, ◌+◌, ◌-◌, ◌%◌, ◌^◌, ◌≤◌, ◌<◌}
-use native.Mathlib.Omega.{arith}
-use native.Mathlib.Numerals.{add-one}
-use borrow.Author.Rules.{rules}
-use mathlib.Core.Path.{◌≡◌, refl, sym, ap, ◌∙◌}
+use Prim.Native.Nat.{ℕ, ◌-◌, ◌^◌, ◌≤◌, ◌<◌}
+use mathlib.Core.Path.{◌≡◌}
 use mathlib.Core.List.{List}
-use lib.ListN.{length, get_or}
-use Rattle.records.specs.declared.ReadRefusal.TheVariants.{CutShort, BadNumber}
-use Rattle.records.specs.declared.scan.Scanned.{Scanned}
-use Rattle.records.specs.declared.scan.Scanned.TheVariants.{Faulty}
-use Rattle.records.specs.Scan.{ended, groups_at}
-use Rattle.records.proofs.theory.Scanning.{groups-out, groups_cut, groups-last, groups-more, worth-next, worth-fits, worth_next}
+use Rattle.records.specs.Scan.{groups_at}
 use Rattle.records.proofs.scan.groups_at.Given as goal
 
 pub record Looked (bytes : List ℕ) (first value at count : ℕ) : Type 0 where

@@ -1,7 +1,6 @@
 -- `scan::length_at` meets its contract. Assumes nothing.
 use mathlib.Core.Path.{ap, ◌∙◌}
 use Rattle.records.specs.Scan.{as_length, length_at}
-use borrow.Author.Rules.{rules}
 use Rattle.records.proofs.scan.length_at.Goals as goal
 
 pub returns : goal.returns

@@ -2,7 +2,6 @@
 use borrow.Author.Tests.{eq-eqb}
 use Rattle.records.specs.Scan.{number_at}
 use Rattle.records.proofs.theory.Scanning.{number_by, number_cut}
-use borrow.Author.Rules.{rules}
 use Rattle.records.proofs.scan.number_at.Goals as goal
 
 pub returns-then-bytes-at : goal.returns-then-bytes-at

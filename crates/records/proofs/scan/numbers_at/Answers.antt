@@ -1,11 +1,9 @@
 -- `scan::numbers_at` meets its contract. The invariant: the first i numbers stand in the buffer, and what is found behind them is all
 -- that is left to find. Assumes nothing.
 use native.Mathlib.Omega.{arith}
-use Prim.Native.Nat.{◌-◌}
-use borrow.Author.Rules.{rules}
 use mathlib.Core.Path.{sym, ◌∙◌}
-use lib.ListN.{length, length-set}
-use Rattle.records.proofs.code.Taking.{Taken, taken_none, stops, goes_on_lem, all-taken}
+use lib.ListN.{length-set}
+use Rattle.records.proofs.code.Taking.{taken_none, stops, goes_on_lem, all-taken}
 use Rattle.records.proofs.scan.numbers_at.Goals as goal
 
 pub loop-i-init : goal.loop-i-init

@@ -1,7 +1,6 @@
 -- `scan::side_at` meets its contract. Assumes nothing.
 use mathlib.Core.Path.{ap, ◌∙◌}
 use Rattle.records.specs.Scan.{as_side, side_at}
-use borrow.Author.Rules.{rules}
 use Rattle.records.proofs.scan.side_at.Goals as goal
 
 pub returns : goal.returns

@@ -1,7 +1,6 @@
 -- `write::unplayed` meets its contract: each refusal as the definition has it. Assumes nothing.
 use mathlib.Core.Path.{sym, ap}
 use Rattle.records.specs.Write.{unplayed}
-use borrow.Author.Rules.{rules}
 use Rattle.records.proofs.write.unplayed.Goals as goal
 
 pub returns-in-Board : goal.returns-in-Board

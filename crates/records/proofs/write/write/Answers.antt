@@ -4,7 +4,6 @@ use mir.Syntax.{w32}
 use mir.ValLaws.{to_z-of_z}
 use Rattle.board.proofs.Laws.{none-faulty}
 use Rattle.records.proofs.code.Testing.{handed_on, refused-board}
-use borrow.Author.Rules.{rules}
 use Rattle.records.proofs.write.write.Goals as goal
 
 pub write_board-requires : goal.write_board-requires

@@ -5,7 +5,6 @@ use mathlib.Core.Path.{sym, ◌∙◌}
 use mathlib.Core.List.{[]}
 use Rattle.planner.proofs.code.Testing.{measured-back}
 use Rattle.records.proofs.code.Testing.{refused_limit, passed_seven, of_list}
-use borrow.Author.Rules.{rules}
 use Rattle.records.proofs.write.write_board.Goals as goal
 
 pub write_within-requires : goal.write_within-requires

@@ -1,6 +1,5 @@
 -- `write::write_fitting` meets its contract: test 8 by the record's length, and then the record. Assumes nothing.
 use Rattle.records.proofs.code.Testing.{refused-room, record_put}
-use borrow.Author.Rules.{rules}
 use Rattle.records.proofs.write.write_fitting.Goals as goal
 
 pub returns-then-out-record_length : goal.returns-then-out-record_length

@@ -2,7 +2,6 @@
 use mathlib.Core.Path.{sym, ◌∙◌}
 use mathlib.Core.List.{[]}
 use Rattle.records.proofs.code.Testing.{refused-length, says, refused-move, refused-goal, few_bytes, of_room}
-use borrow.Author.Rules.{rules}
 use Rattle.records.proofs.write.write_within.Goals as goal
 
 pub returns-then-ceiling-moves : goal.returns-then-ceiling-moves

@@ -1,5 +1,4 @@
 -- `search::answer::answer_of` meets its contract: its tests are the definition's. Assumes nothing.
-use borrow.Author.Rules.{rules}
 use Rattle.search.proofs.code.Answers.{reads_value, reads_found, reads_spent}
 use Rattle.search.proofs.answer.answer_of.Goals as goal
 

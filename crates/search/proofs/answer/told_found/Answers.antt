@@ -1,6 +1,5 @@
 -- `search::answer::told_found` meets its contract: the number reads as the length. Assumes nothing.
 use native.Mathlib.Omega.{arith}
-use borrow.Author.Rules.{rules}
 use Rattle.search.proofs.code.Answers.{found-told}
 use Rattle.search.proofs.answer.told_found.Goals as goal
 

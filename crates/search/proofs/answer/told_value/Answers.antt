@@ -1,6 +1,5 @@
 -- `search::answer::told_value` meets its contract: the number reads as the value. Assumes nothing.
 use native.Mathlib.Omega.{arith}
-use borrow.Author.Rules.{rules}
 use Rattle.search.proofs.code.Answers.{value-told}
 use Rattle.search.proofs.answer.told_value.Goals as goal
 

@@ -1,5 +1,4 @@
 -- `search::row::best_of` meets its contract: the three comparisons are the definition's. Assumes nothing.
-use borrow.Author.Rules.{rules}
 use Rattle.search.specs.Row.{best_of}
 use Rattle.search.proofs.row.best_of.Goals as goal
 

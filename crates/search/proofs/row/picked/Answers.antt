@@ -1,8 +1,7 @@
 -- `search::row::picked` meets its contract: each of its four ways out is a case of the definition. Assumes nothing.
 use Prim.Native.Nat.{ℕ, min}
-use mathlib.Core.Path.{◌≡◌, ap, ◌∙◌}
+use mathlib.Core.Path.{ap, ◌∙◌}
 use native.Mathlib.Omega.{arith}
-use borrow.Author.Rules.{rules}
 use Rattle.search.proofs.code.Picking.{picks_first, picks_second, picks_third, picks_fourth}
 use Rattle.search.proofs.row.picked.Goals as goal
 

@@ -1,5 +1,5 @@
 -- The cycle {visit, work} meets its contracts: each way out is a case of the definition (`Visiting.antt`, `Working.antt`). Assumes nothing.
-use Rattle.std.proofs.Common.{◌≡◌, ◌∙◌, ◌+◌, ◌*◌, ◌<◌, ◌≤◌, ℕ, true, false, sym, ap, refl, length, arith}
+use Rattle.std.proofs.Common.{◌≡◌, ◌∙◌, ◌<◌, ℕ, true, false, sym, ap, refl, length, arith}
 use native.Mathlib.Nat.{le_of_lt}
 use borrow.Author.Tests.{eq-eqb, ne_eqb, not-true, not-false}
 use Rattle.board.specs.Board.{is_goal}
@@ -9,7 +9,6 @@ use Rattle.board.specs.declared.Shape.{Shape}
 use Rattle.board.specs.declared.Position.{Position}
 use Rattle.board.proofs.Laws.{kept-goal, leads_on, kept_on}
 use Rattle.search.specs.declared.Choice.{Choice}
-use Rattle.search.specs.Run.{Room, answer_of}
 use Rattle.search.proofs.code.TableRows.{room-kept, row_fits}
 use Rattle.search.proofs.code.Outcomes.{ran-told}
 use Rattle.search.proofs.code.Visiting.{starts_open, none_left, at-goal, at-ceiling, works}

@@ -1,11 +1,10 @@
 -- `search::visits::first_row` meets its contract: the two values are those of a successor one step nearer and of one farther, and the four
 -- stores put the definition's four first values into the row. Assumes nothing.
-use Prim.Native.Nat.{ℕ, suc, ◌+◌, ◌*◌}
+use Prim.Native.Nat.{ℕ, ◌+◌}
 use mathlib.Core.Path.{◌≡◌, ap₂, ◌∙◌}
 use native.Mathlib.Numerals.{add-one}
 use native.Mathlib.Omega.{arith}
 use lib.ListN.{length-set}
-use borrow.Author.Rules.{rules}
 use Rattle.board.proofs.Laws.{kept-most}
 use Rattle.search.specs.declared.Job.{Job}
 use Rattle.search.specs.Row.{first_stored}

@@ -2,7 +2,6 @@
 -- definition says so. Assumes nothing.
 use Prim.Native.Nat.{ℕ}
 use mathlib.Core.Path.{sym, ◌∙◌, ap}
-use borrow.Author.Rules.{rules}
 use Rattle.search.specs.Row.{first_stored}
 use Rattle.search.proofs.visits.first_value.Goals as goal
 

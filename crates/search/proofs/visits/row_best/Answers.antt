@@ -1,6 +1,5 @@
 -- `search::visits::row_best` meets its contract: the four numbers that it reads are the row's. Assumes nothing.
 use mathlib.Core.Path.{◌∙◌}
-use borrow.Author.Rules.{rules}
 use Rattle.search.specs.Row.{best, best_of}
 use Rattle.search.proofs.code.TableRows.{row_read}
 use Rattle.search.proofs.visits.row_best.Goals as goal

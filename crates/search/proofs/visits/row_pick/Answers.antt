@@ -2,7 +2,6 @@
 use Prim.Native.Nat.{ℕ}
 use mathlib.Core.Path.{sym, ◌∙◌, subst}
 use mathlib.Core.List.{List, [], ◌∷◌}
-use borrow.Author.Rules.{rules}
 use Rattle.search.specs.Row.{best, best_of}
 use Rattle.search.specs.Run.{Picks}
 use Rattle.search.proofs.code.Picking.{picks-entries}

@@ -1,7 +1,6 @@
 -- `search::visits::static_value` meets its contract: q × g is at most 64 × 120 and p × h at most 64 × 91, so nothing wraps.
 -- Assumes nothing.
 use Prim.Native.Nat.{ℕ, ◌+◌, ◌*◌, ◌≤◌}
-use mathlib.Core.Path.{refl}
 use native.Mathlib.Nat.{mul-le-mul}
 use native.Mathlib.Omega.{arith}
 use Rattle.search.specs.declared.Job.{Job}
