@@ -16,6 +16,6 @@ pub returns : goal.returns
 returns c =
     let a = c.args in
     -- the ceiling was handed on as the same number
-    let fits : SFits w32 a.numbers.ceiling = record { sfits = c.struct_told-1.given.1.1.0.1 } in
+    let fits : SFits w32 a.numbers.ceiling = record { sfits = search rules } in
     let settled = rw (to_z-of_z w32 a.numbers.ceiling fits) at c.plan-answer.ensures in
     job-line (job_of a.numbers a.cells.now) _ _ _ _ _ _ settled c.write_answer.ensures

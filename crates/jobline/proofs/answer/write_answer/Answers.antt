@@ -1,6 +1,5 @@
 -- `answer::write_answer` meets its contract: each arm writes the line of its answer.
 -- Assumes nothing.
-use borrow.Author.Rules.{rules}
 use mathlib.Core.Path.{sym}
 use lib.Seq.{length-take-le}
 use Rattle.jobline.proofs.code.Answering.{plan-fits, plan-line, refusal-line}

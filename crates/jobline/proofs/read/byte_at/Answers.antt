@@ -1,6 +1,5 @@
 -- `read::byte_at` meets its contract: past the end the default is the answer.
 -- Assumes nothing.
-use borrow.Author.Rules.{rules}
 use mathlib.Core.Path.{sym}
 use lib.ListN.{get_or-eq_default}
 use Rattle.jobline.proofs.read.byte_at.Goals as goal

@@ -1,13 +1,8 @@
 -- The invariants and measures of `read.digits_end`. Assumes nothing.
-use Prim.Native.Nat.{ℕ, ◌+◌, ◌-◌, suc}
-use native.Mathlib.Omega.{arith}
-use native.Mathlib.Numerals.{add-one}
-use mathlib.Core.Path.{◌≡◌, refl}
-use mathlib.Core.List.{List, ◌∷◌}
-use lib.ListN.{length, get_or, drop, drop_of_length-le}
-use lib.Seq.{drop-cons}
+use Prim.Native.Nat.{◌+◌, ◌-◌}
+use mathlib.Core.Path.{◌≡◌}
+use lib.ListN.{length, drop}
 use Rattle.jobline.specs.Scan.{run}
-use Rattle.jobline.proofs.theory.Runs.{run-digit, run-low, run-high, run_nil}
 use Rattle.jobline.proofs.read.digits_end.Given as goal
 
 abbrev pub invariant-loop-i : goal.invariant-loop-i

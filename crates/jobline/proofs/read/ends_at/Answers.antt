@@ -1,6 +1,5 @@
 -- `read::ends_at` meets its contract: each return is one case of `ends_at`. A line feed stands inside the text, so the place behind it
 -- fits. Assumes nothing.
-use borrow.Author.Rules.{rules}
 use native.Mathlib.Omega.{arith}
 use mathlib.Core.Path.{sym, ◌∙◌}
 use borrow.Author.Tests.{ne_eqb}

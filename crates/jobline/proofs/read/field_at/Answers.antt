@@ -1,16 +1,10 @@
 -- `read::field_at` meets its contract: each return is one case of `field_at`. A space or a minus stands inside the text, so the place
 -- behind it fits. Assumes nothing.
-use borrow.Author.Rules.{rules}
 use native.Mathlib.Omega.{arith}
-use mathlib.Core.Path.{◌≡◌, sym, ◌∙◌}
-use Rattle.jobline.specs.Numeral.{space}
-use Rattle.jobline.specs.Scan.{byte_at}
+use mathlib.Core.Path.{sym, ◌∙◌}
 use Rattle.jobline.proofs.theory.Places.{inside}
 use Rattle.jobline.proofs.theory.Fields.{minus-inside, field_none, field_minus, field_plain}
 use Rattle.jobline.proofs.read.field_at.Goals as goal
-
-spaced : (c : tie.Else1) → byte_at (start_of c).args.text.now (start_of c).args.at ≡ space
-spaced c = sym c.before.byte_at.ensures ∙ c.if1.false
 
 pub returns-then-b-ne32 : goal.returns-then-b-ne32
 returns-then-b-ne32 c =
@@ -19,7 +13,7 @@ returns-then-b-ne32 c =
 
 pub overflow_add-start : goal.overflow_add-start
 overflow_add-start c =
-    omega (arith, inside c.args.text.now c.args.at 31 (spaced c))
+    omega (arith, inside c.args.text.now c.args.at 31 (sym c.byte_at-b.ensures ∙ c.if-b-ne32.false))
 
 pub overflow_add-start-then-minus_at : goal.overflow_add-start-then-minus_at
 overflow_add-start-then-minus_at c =
@@ -29,11 +23,13 @@ overflow_add-start-then-minus_at c =
 pub returns-then-minus_at : goal.returns-then-minus_at
 returns-then-minus_at c =
     let a = c.args in
+    let spaced = sym c.byte_at-b.ensures ∙ c.if-b-ne32.false in
     let minus = sym c.minus_at.ensures ∙ c.if-minus_at.true in
-    c.number_at.ensures ∙ sym (field_minus a.signed a.most a.text.now a.at (spaced c) minus)
+    c.number_at.ensures ∙ sym (field_minus a.signed a.most a.text.now a.at spaced minus)
 
 pub returns : goal.returns
 returns c =
     let a = c.args in
+    let spaced = sym c.byte_at-b.ensures ∙ c.if-b-ne32.false in
     let plain = sym c.minus_at.ensures ∙ c.if-minus_at.false in
-    c.number_at-2.ensures ∙ sym (field_plain a.signed a.most a.text.now a.at (spaced c) plain)
+    c.number_at-2.ensures ∙ sym (field_plain a.signed a.most a.text.now a.at spaced plain)

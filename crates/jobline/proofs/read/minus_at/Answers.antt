@@ -1,6 +1,5 @@
 -- `read::minus_at` meets its contract: each way is one case of `minus_at`.
 -- Assumes nothing.
-use borrow.Author.Rules.{rules}
 use Rattle.jobline.specs.Scan.{minus_at}
 use Rattle.jobline.proofs.read.minus_at.Goals as goal
 

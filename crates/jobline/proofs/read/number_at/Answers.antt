@@ -1,7 +1,6 @@
 -- `read::number_at` meets its contract: each return is one case of `number_at`.
 -- Assumes nothing.
 use Prim.Native.Nat.{ℕ, ◌+◌, ◌≤◌, ◌<◌}
-use borrow.Author.Rules.{rules}
 use native.Mathlib.Omega.{arith}
 use mathlib.Core.Path.{◌≡◌, sym}
 use mathlib.Core.Bool.{Bool}
@@ -33,23 +32,6 @@ number-there : (minus : Bool) (most : ℕ) (text : List ℕ) (at to v : ℕ) →
     → 1 ≤ count text at → count text at ≤ 9 → v ≤ most → Number v minus to ≡ number_at minus most text at
 number-there minus most text at to v e w a b h = rw (e, ← w) (sym (number_is minus most text at a b (rw w h)))
 
--- the digits that were valued: there are some, at most nine, and this is their worth
-module _ (c : tie.After-value-between) where
-  abbrev text : List ℕ
-  text = (start_of (ended_of c)).args.text.now
-
-  abbrev at : ℕ
-  at = (start_of (ended_of c)).args.at
-
-  some : 1 ≤ count text at
-  some = omega (arith, (ended_of c).digits-end.ensures)
-
-  few : count text at ≤ 9
-  few = omega (arith, (ended_of c).digits-end.ensures)
-
-  value : worth text at ≡ c.value-between.result
-  value = value-is _ _ _ _ (ended_of c).digits-end.ensures c.value-between.ensures
-
 pub returns-then-next-at : goal.returns-then-next-at
 returns-then-next-at c =
     let a = c.args in
@@ -68,10 +50,12 @@ value_between-value-requires c =
 pub returns-then-most-value : goal.returns-then-most-value
 returns-then-most-value c =
     let a = c.args in
-    sym (number_large a.minus a.most a.text.now a.at (some c) (few c) (rw (value c) c.if-most-value.true))
+    let worth_is = value-is a.text.now a.at _ _ c.digits_end-next.ensures c.value_between-value.ensures in
+    sym (number_large a.minus a.most a.text.now a.at (omega arith) (omega arith) (rw worth_is c.if-most-value.true))
 
 pub returns : goal.returns
 returns c =
     let a = c.args in
     let end = c.digits_end-next.ensures in
-    number-there a.minus a.most a.text.now a.at _ _ end (value c) (some c) (few c) c.if-most-value.false
+    let worth_is = value-is a.text.now a.at _ _ end c.value_between-value.ensures in
+    number-there a.minus a.most a.text.now a.at _ _ end worth_is (omega arith) (omega arith) c.if-most-value.false

@@ -1,7 +1,6 @@
 -- `read::read_job` meets its contract: each return is one case of `read_job`, and the cells go to the caller only with a job.
 -- Assumes nothing.
 use Prim.Native.Nat.{ℕ, ◌≤◌, ◌<◌}
-use borrow.Author.Rules.{rules}
 use native.Mathlib.Omega.{arith}
 use mathlib.Core.Path.{◌≡◌, refl, sym, ◌∙◌}
 use mathlib.Core.List.{List}
@@ -53,14 +52,9 @@ no_cells : (text : List ℕ) (n : Numbers) (next : ℕ) (old new : List ℕ) →
     → Counted (cells_at 32 text next) old Uncounted new → Answers (read_job text) old Malformed old
 no_cells text n next old new e h = refused text old (e ∙ rw (uncounted (cells_at 32 text next) old new h))
 
-short : (c : tie.Else1) → length (text_at c) ≤ 256
-short c = omega (arith, c.if1.false)
-
-head-is : (h : tie.After-numbers) →
-    let told = h.numbers.given.0 in
-    let text = text_at (tested-of h) in
-    read_job text ≡ behind_head text (Sound told.0 told.1.0)
-head-is h = read_is _ _ (short (tested-of h)) (sym h.before.before.head-of.ensures ∙ h.numbers.given.1)
+head-is : (text : List ℕ) (head : HeadRead) (n : Numbers) (next : ℕ) → length text ≤ 256 → head ≡ head_of text → head ≡ Sound n next
+    → read_job text ≡ behind_head text (Sound n next)
+head-is text head n next short e f = read_is text (Sound n next) short (sym e ∙ f)
 
 pub returns-then-text-gt256 : goal.returns-then-text-gt256
 returns-then-text-gt256 c =
@@ -68,12 +62,14 @@ returns-then-text-gt256 c =
 
 pub returns-in_default : goal.returns-in_default
 returns-in_default c =
-    refused _ _ (read_is _ Broken (short c) (sym c.head_of.ensures ∙ c.in_default.is))
+    refused _ _ (read_is _ Broken c.if-text-gt256.false (sym c.head_of.ensures ∙ c.in_default.is))
 
 pub returns-in_default-cells_at : goal.returns-in_default-cells_at
 returns-in_default-cells_at c =
-    no_cells _ _ _ _ _ (head-is c) (rw c.in_default-cells_at.is at c.cells_at.ensures)
+    no_cells _ _ _ _ _ (head-is _ _ _ _ c.if-text-gt256.false c.head_of.ensures c.in-Sound.is)
+    (rw c.in_default-cells_at.is at c.cells_at.ensures)
 
 pub returns : goal.returns
 returns c =
-    answered _ _ _ _ _ _ (head-is c) (counted _ _ _ _ (rw c.in-Cells.is at c.cells_at.ensures))
+    answered _ _ _ _ _ _ (head-is _ _ _ _ c.if-text-gt256.false c.head_of.ensures c.in-Sound.is)
+    (counted _ _ _ _ (rw c.in-Cells.is at c.cells_at.ensures))

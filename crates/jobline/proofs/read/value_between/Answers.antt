@@ -8,7 +8,7 @@ use mathlib.Core.Path.{◌≡◌, refl}
 use mathlib.Core.List.{List}
 use lib.ListN.{length, get_or}
 use lib.Seq.{slice, slice-cons, slice_empty}
-use Rattle.jobline.specs.Numeral.{Digit, Digits, value_from, value_of}
+use Rattle.jobline.specs.Numeral.{Digit, Digits, value_of}
 use Rattle.jobline.proofs.theory.Runs.{value_step, value_bound}
 use Rattle.jobline.proofs.read.value_between.Invariants.{Ahead}
 use Rattle.jobline.proofs.read.value_between.Goals as goal
@@ -43,25 +43,6 @@ ended text from to v i a h =
     let e : i ≡ to = omega (arith, a.inside) in
     rw (e, slice_empty to text) at a.whole
 
--- what is known in a turn: the next byte is a digit, and the value with a digit more still fits
-module _ (c : tie.In-loop invariant-loop decreases-loop) where
-  abbrev start : tie.Start invariant-loop decreases-loop
-  start = c.before.before
-
-  abbrev byte : ℕ
-  byte = get_or start.args.text.now c.before.loop.i 0
-
-  here : Digit byte
-  here =
-      next-digit start.args.text.now start.args.to c.before.loop.i c.loop-test.true start.pre.inside
-      c.before.loop.invariant.digits
-
-  small : (d : ℕ) → d ≤ 9 → c.before.loop.value * 10 + d < 1000000000
-  small d h =
-      let inv = c.before.loop.invariant in
-      fits_next start.args.from c.before.loop.i start.args.to c.before.loop.value d inv.after
-      c.loop-test.true start.pre.few inv.small h
-
 pub loop-i-init : goal.loop-i-init
 loop-i-init c =
     record {
@@ -74,33 +55,29 @@ loop-i-init c =
 
 pub overflow_mul-value : goal.overflow_mul-value
 overflow_mul-value c =
-    omega (arith, small c 0 (omega arith))
-
-pub bounds-text-i : goal.bounds-text-i
-bounds-text-i c =
-    omega (arith, (start c).pre.inside)
+    let l = c.loop-i.invariant in
+    omega (arith, fits_next _ _ c.args.to _ 0 l.after c.loop-i-test.true c.requires.few l.small (omega arith))
 
 pub overflow_sub-value : goal.overflow_sub-value
 overflow_sub-value c =
-    (here c).0
+    (next-digit c.args.text.now _ _ c.loop-i-test.true c.requires.inside c.loop-i.invariant.digits).0
 
 pub overflow_cast-value : goal.overflow_cast-value
 overflow_cast-value c =
-    omega (arith, here c)
+    omega (arith, next-digit c.args.text.now _ _ c.loop-i-test.true c.requires.inside c.loop-i.invariant.digits)
 
 pub overflow_add-value : goal.overflow_add-value
 overflow_add-value c =
-    omega (arith, small c (byte c - 48) (omega (arith, here c)))
-
-pub overflow_add-i : goal.overflow_add-i
-overflow_add-i c =
-    omega (arith, (start c).pre.inside)
+    let b = get_or c.args.text.now c.loop-i.i 0 in
+    let l = c.loop-i.invariant in
+    let d : Digit b = next-digit c.args.text.now _ _ c.loop-i-test.true c.requires.inside l.digits in
+    omega (arith, fits_next _ _ c.args.to _ (b - 48) l.after c.loop-i-test.true c.requires.few l.small (omega arith))
 
 pub loop-i-preserved : goal.loop-i-preserved
 loop-i-preserved c =
-    let a = (start c).args in
+    let a = c.args in
     let l = c.loop-i in
-    turn a.text.now a.from a.to l.value l.i l.invariant c.loop-i-test.true (start c).pre.inside
+    turn a.text.now a.from a.to l.value l.i l.invariant c.loop-i-test.true c.requires.inside
 
 pub returns : goal.returns
 returns c =

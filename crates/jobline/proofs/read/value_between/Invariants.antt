@@ -1,14 +1,9 @@
 -- The invariants and measures of `read.value_between`. Assumes nothing.
-use Prim.Native.Nat.{ℕ, ◌+◌, ◌*◌, ◌-◌, ◌^◌, ◌≤◌, ◌<◌, suc}
-use native.Mathlib.Omega.{arith}
-use native.Mathlib.Numerals.{add-one}
-use native.Mathlib.Nat.{sub_self}
-use mathlib.Core.Path.{◌≡◌, refl}
+use Prim.Native.Nat.{ℕ, ◌-◌, ◌^◌, ◌≤◌, ◌<◌}
+use mathlib.Core.Path.{◌≡◌}
 use mathlib.Core.List.{List}
-use lib.ListN.{length, get_or}
-use lib.Seq.{slice, slice-cons, slice_empty}
-use Rattle.jobline.specs.Numeral.{Digit, Digits, value_from, value_of}
-use Rattle.jobline.proofs.theory.Runs.{value_step, value_bound}
+use lib.Seq.{slice}
+use Rattle.jobline.specs.Numeral.{Digits, value_from, value_of}
 use Rattle.jobline.proofs.read.value_between.Given as goal
 
 pub record Ahead (text : List ℕ) (from to value i : ℕ) : Type 0 where

@@ -1,7 +1,6 @@
 -- `read::with_sign` meets its contract: a number of nine digits is below 2 ^ 31, so its bits are the number itself, and so are those
 -- of its negation. Assumes nothing.
 use Prim.Native.Nat.{ℕ, zero, suc, ◌≤◌}
-use borrow.Author.Rules.{rules}
 use native.Mathlib.Omega.{arith}
 use mathlib.Core.Path.{◌≡◌}
 use lib.IntN.{pos, neg_ℤ, ◌-ℤ◌, +ℤ_idl}

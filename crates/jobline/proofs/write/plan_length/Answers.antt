@@ -1,7 +1,6 @@
 -- `write::plan_length` meets its contract: the lengths of the line's pieces. The sum fits, since the numbers have at most twenty and ten
 -- digits, and no slice fills the memory. Assumes nothing.
-use Prim.Native.Nat.{◌≤◌}
-use borrow.Author.Rules.{rules}
+use Prim.Native.Nat.{ℕ, ◌≤◌, ◌<◌}
 use native.Mathlib.Omega.{arith}
 use lib.ListN.{length}
 use Rattle.jobline.specs.Line.{decimal}
@@ -9,32 +8,28 @@ use Rattle.jobline.proofs.theory.Lines.{plan-length, letters-length}
 use Rattle.jobline.proofs.theory.Decimal.{decimal-length}
 use Rattle.jobline.proofs.write.plan_length.Goals as goal
 
--- both numbers have few digits
-few-places : (c : tie.Start)
-    → (length (decimal (length c.args.moves.now)) ≤ 20) × (length (decimal c.args.visits) ≤ 10)
-few-places c = (
-  decimal-length (length c.args.moves.now) 19 (omega (arith, c.well-formed.1.0.0)),
-  decimal-length c.args.visits 9 (omega (arith, c.ranges.visits)),
-)
+-- a number below the memory's size has at most twenty digits, and one of 32 bits at most ten
+twenty : (n : ℕ) → n < 18446744073709551616 → length (decimal n) ≤ 20
+twenty n h = decimal-length n 19 (omega arith)
+
+ten : (n : ℕ) → n < 4294967296 → length (decimal n) ≤ 10
+ten n h = decimal-length n 9 (omega arith)
 
 pub overflow_add-result : goal.overflow_add-result
 overflow_add-result c =
-    omega (arith, c.places.ensures, few-places c)
+    omega (arith, twenty (length c.args.moves.now) (omega arith))
 
 pub overflow_add-result-2 : goal.overflow_add-result-2
 overflow_add-result-2 c =
-    omega (arith, c.places.ensures, c.places-2.ensures, few-places c)
+    omega (arith, twenty (length c.args.moves.now) (omega arith), ten c.args.visits (omega arith))
 
 pub overflow_add-result-3 : goal.overflow_add-result-3
 overflow_add-result-3 c =
     omega (
       arith,
-      c.places.ensures,
-      c.places-2.ensures,
-      c.letters_length.ensures,
-      few-places c,
+      twenty (length c.args.moves.now) (omega arith),
+      ten c.args.visits (omega arith),
       letters-length c.args.moves.now,
-      c.good.1.0.1,
     )
 
 pub returns : goal.returns

@@ -1,6 +1,5 @@
 -- `write::put_field` meets its contract: a space and then a number.
 -- Assumes nothing.
-use borrow.Author.Rules.{rules}
 use Rattle.jobline.proofs.code.Puts.{put_then}
 use Rattle.jobline.proofs.write.put_field.Goals as goal
 

@@ -1,6 +1,6 @@
 -- `write::put_moves` meets its contract. The invariant: the letters of the first i moves are stored.
 -- Assumes nothing.
-use Prim.Native.Nat.{ℕ, ◌+◌, ◌-◌, ◌<◌}
+use Prim.Native.Nat.{ℕ, ◌+◌, ◌<◌}
 use native.Mathlib.Omega.{arith}
 use mathlib.Core.Path.{◌≡◌}
 use mathlib.Core.List.{List, map}
@@ -20,29 +20,13 @@ pub loop-i-init : goal.loop-i-init
 loop-i-init c =
     stored-none (map letter c.args.moves.now) _ _
 
-pub overflow_add-out : goal.overflow_add-out
-overflow_add-out c =
-    omega (arith, c.pre, c.good.1.0)
-
-pub bounds-out-at : goal.bounds-out-at
-bounds-out-at c =
-    omega (arith, c.pre, c.loop-i.invariant.size)
-
-pub overflow_add-i : goal.overflow_add-i
-overflow_add-i c =
-    omega (arith, c.good.0)
-
 pub loop-i-preserved : goal.loop-i-preserved
 loop-i-preserved c =
-    next c.args.moves.now _ _ _ _ _ c.loop-i.inv c.loop-i-test.true c.letter_of.ensures
+    next c.args.moves.now _ _ _ _ _ c.loop-i.invariant c.loop-i-test.true c.letter_of.ensures
 
 pub overflow_add-result : goal.overflow_add-result
 overflow_add-result c =
-    omega (arith, c.pre, c.good.1.0, c.loop-i.invariant.inside, length-map c.args.moves.now letter)
-
-pub shape_of-out : goal.shape_of-out
-shape_of-out c =
-    c.loop-i.invariant.size
+    omega (arith, c.loop-i.invariant.inside, length-map c.args.moves.now letter)
 
 pub returns : goal.returns
 returns c =

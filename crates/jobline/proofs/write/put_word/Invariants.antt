@@ -1,8 +1,7 @@
 -- The invariants and measures of `write.put_word`. Assumes nothing.
 use Prim.Native.Nat.{◌-◌}
-use native.Mathlib.Omega.{arith}
 use lib.ListN.{length}
-use Rattle.jobline.proofs.code.Puts.{Stored, stored-none, stored_more, stored-all}
+use Rattle.jobline.proofs.code.Puts.{Stored}
 use Rattle.jobline.proofs.write.put_word.Given as goal
 
 abbrev pub invariant-loop-i : goal.invariant-loop-i

@@ -1,7 +1,6 @@
 -- `write::refusal_length` meets its contract: the lengths of the line's pieces. Each fits, since a 32-bit number has at most ten digits.
 -- Assumes nothing.
 use Prim.Native.Nat.{ℕ, ◌≤◌}
-use borrow.Author.Rules.{rules}
 use native.Mathlib.Omega.{arith}
 use lib.ListN.{length}
 use mir.Syntax.{w32}
