@@ -7,150 +7,159 @@
 
 ghost use Rattle.std.specs.Prelude.{◌≤◌};
 
-use libc::STDOUT_FILENO;
 use player::answers::{is_goal, number, place};
 use player::play;
+use std::io;
 
 // Plays one list, with an output of `room` bytes.
-fn show(width: u32, height: u32, cells: &[u8], moves: &[u8], room: usize)
+fn show(
+    rt: &impl Print,
+    width: u32,
+    height: u32,
+    cells: &[u8],
+    moves: &[u8],
+    room: usize,
+) -> io::Result<()>
     requires { room ≤ 16 }
 {
     let mut out = [99u8; 16];
     let answer = play(width, height, cells, moves, &mut out[..room]);
-    io::print_decimal(STDOUT_FILENO, number(answer) as u64);
-    print_byte(b' ');
-    io::print_decimal(STDOUT_FILENO, place(answer) as u64);
-    print_byte(b' ');
-    print_yes(is_goal(answer));
-    print_cells(&out);
-    print_byte(b'\n');
+    print!(rt; "{}", number(answer))?;
+    print_byte(rt, b' ')?;
+    print!(rt; "{}", place(answer))?;
+    print_byte(rt, b' ')?;
+    print_yes(rt, is_goal(answer))?;
+    print_cells(rt, &out)?;
+    print_byte(rt, b'\n')
 }
 
-fn print_yes(yes: bool) {
+fn print_yes(rt: &impl Print, yes: bool) -> io::Result<()> {
     if yes {
-        io::write_all(STDOUT_FILENO, b"yes");
+        print!(rt; "yes")
     } else {
-        io::write_all(STDOUT_FILENO, b"no");
+        print!(rt; "no")
     }
 }
 
-fn print_byte(byte: u8) {
-    let one = [byte];
-    io::write_all(STDOUT_FILENO, &one);
+fn print_byte(rt: &impl Print, byte: u8) -> io::Result<()> {
+    rt.write_all(&[byte])
 }
 
-fn print_cells(cells: &[u8; 16]) {
-    let mut i = 0;
-    while i < 16 {
-        print_byte(b' ');
-        print_cell(cells[i]);
-        i += 1;
+fn print_cells(rt: &impl Print, cells: &[u8; 16]) -> io::Result<()> {
+    for cell in cells {
+        print_byte(rt, b' ')?;
+        print_cell(rt, *cell)?;
     }
+    Ok(())
 }
 
-fn print_cell(byte: u8) {
-    io::print_decimal(STDOUT_FILENO, byte as u64);
+fn print_cell(rt: &impl Print, byte: u8) -> io::Result<()> {
+    print!(rt; "{byte}")
 }
 
 // The plans of the boards worked by hand, and lists that are no plans.
-fn worked() {
-    show(2, 2, &[0, 1, 2, 3], &[], 16);
-    show(2, 2, &[1, 0, 2, 3], &[1], 16);
-    show(2, 2, &[3, 2, 1, 0], &[0, 1, 3, 2, 0, 1], 16);
-    show(2, 2, &[3, 2, 1, 0], &[1, 0, 2, 3, 1, 0], 4);
-    show(2, 2, &[0, 3, 1, 2], &[3, 2, 0, 1], 5);
-    show(2, 2, &[0, 3, 1, 2], &[3, 2, 0], 16);
+fn worked(rt: &impl Print) -> io::Result<()> {
+    show(rt, 2, 2, &[0, 1, 2, 3], &[], 16)?;
+    show(rt, 2, 2, &[1, 0, 2, 3], &[1], 16)?;
+    show(rt, 2, 2, &[3, 2, 1, 0], &[0, 1, 3, 2, 0, 1], 16)?;
+    show(rt, 2, 2, &[3, 2, 1, 0], &[1, 0, 2, 3, 1, 0], 4)?;
+    show(rt, 2, 2, &[0, 3, 1, 2], &[3, 2, 0, 1], 5)?;
+    show(rt, 2, 2, &[0, 3, 1, 2], &[3, 2, 0], 16)
 }
 
 // Other cabinets.
-fn larger() {
-    show(3, 2, &[0, 2, 1, 3, 5, 4], &[2, 3, 1, 0], 16);
-    show(2, 3, &[1, 3, 0, 2, 4, 5], &[0, 2, 3, 3, 1, 0], 6);
-    show(4, 2, &[1, 2, 3, 7, 4, 5, 6, 0], &[0, 1, 1, 1], 16);
-    show(2, 4, &[2, 1, 4, 3, 6, 5, 0, 7], &[0, 0, 0], 8);
-    show(3, 3, &[1, 4, 2, 3, 0, 5, 6, 7, 8], &[0, 1], 9);
+fn larger(rt: &impl Print) -> io::Result<()> {
+    show(rt, 3, 2, &[0, 2, 1, 3, 5, 4], &[2, 3, 1, 0], 16)?;
+    show(rt, 2, 3, &[1, 3, 0, 2, 4, 5], &[0, 2, 3, 3, 1, 0], 6)?;
+    show(rt, 4, 2, &[1, 2, 3, 7, 4, 5, 6, 0], &[0, 1, 1, 1], 16)?;
+    show(rt, 2, 4, &[2, 1, 4, 3, 6, 5, 0, 7], &[0, 0, 0], 8)?;
+    show(rt, 3, 3, &[1, 4, 2, 3, 0, 5, 6, 7, 8], &[0, 1], 9)?;
     show(
+        rt,
         4,
         4,
         &[1, 2, 3, 7, 4, 5, 6, 11, 8, 9, 10, 15, 12, 13, 14, 0],
         &[0, 0, 0, 1, 1, 1],
         16,
-    );
+    )?;
     show(
+        rt,
         4,
         3,
         &[4, 1, 2, 3, 8, 5, 6, 7, 0, 9, 10, 11],
         &[0, 0, 2, 1],
         12,
-    );
+    )?;
     show(
+        rt,
         3,
         4,
         &[3, 1, 2, 6, 4, 5, 9, 7, 8, 0, 10, 11],
         &[0, 0, 0, 3],
         16,
-    );
+    )
 }
 
 // A refusal of each kind, and the order of the tests.
-fn refused() {
-    show(1, 2, &[0, 1], &[4], 0);
-    show(5, 2, &[0, 1, 2, 3, 4, 5, 6, 7, 8, 9], &[], 16);
-    show(2, 258, &[0, 1, 2, 3], &[], 16);
-    show(3, 2, &[0, 1, 2, 3, 4], &[4], 0);
-    show(2, 2, &[0, 1, 2, 3, 4], &[], 16);
-    show(2, 2, &[0, 1, 1, 4], &[4], 0);
+fn refused(rt: &impl Print) -> io::Result<()> {
+    show(rt, 1, 2, &[0, 1], &[4], 0)?;
+    show(rt, 5, 2, &[0, 1, 2, 3, 4, 5, 6, 7, 8, 9], &[], 16)?;
+    show(rt, 2, 258, &[0, 1, 2, 3], &[], 16)?;
+    show(rt, 3, 2, &[0, 1, 2, 3, 4], &[4], 0)?;
+    show(rt, 2, 2, &[0, 1, 2, 3, 4], &[], 16)?;
+    show(rt, 2, 2, &[0, 1, 1, 4], &[4], 0)?;
     show(
+        rt,
         4,
         4,
         &[15, 14, 13, 12, 11, 10, 9, 8, 7, 6, 5, 4, 3, 2, 255, 16],
         &[],
         16,
-    );
-    show(2, 2, &[0, 1, 1, 3], &[4], 0);
-    show(2, 4, &[7, 6, 5, 4, 3, 2, 1, 7], &[], 16);
-    show(2, 2, &[0, 1, 2, 3], &[4], 3);
+    )?;
+    show(rt, 2, 2, &[0, 1, 1, 3], &[4], 0)?;
+    show(rt, 2, 4, &[7, 6, 5, 4, 3, 2, 1, 7], &[], 16)?;
+    show(rt, 2, 2, &[0, 1, 2, 3], &[4], 3)?;
     show(
+        rt,
         4,
         4,
         &[0, 1, 2, 3, 4, 5, 6, 7, 8, 9, 10, 11, 12, 13, 14, 15],
         &[0],
         15,
-    );
-    show(2, 2, &[0, 1, 2, 3], &[4], 16);
-    show(2, 2, &[0, 1, 2, 3], &[2, 3, 255, 0], 16);
-    show(4, 2, &[0, 1, 2, 3, 4, 5, 6, 7], &[2, 2, 2, 3, 1, 9], 16);
-    show(2, 2, &[0, 1, 2, 3], &[0], 4);
-    show(2, 2, &[0, 1, 2, 3], &[1], 16);
-    show(3, 2, &[0, 1, 2, 3, 4, 5], &[2, 2, 2, 4], 16);
-    show(2, 3, &[0, 1, 2, 3, 4, 5], &[3, 3, 3], 16);
+    )?;
+    show(rt, 2, 2, &[0, 1, 2, 3], &[4], 16)?;
+    show(rt, 2, 2, &[0, 1, 2, 3], &[2, 3, 255, 0], 16)?;
+    show(rt, 4, 2, &[0, 1, 2, 3, 4, 5, 6, 7], &[2, 2, 2, 3, 1, 9], 16)?;
+    show(rt, 2, 2, &[0, 1, 2, 3], &[0], 4)?;
+    show(rt, 2, 2, &[0, 1, 2, 3], &[1], 16)?;
+    show(rt, 3, 2, &[0, 1, 2, 3, 4, 5], &[2, 2, 2, 4], 16)?;
+    show(rt, 2, 3, &[0, 1, 2, 3, 4, 5], &[3, 3, 3], 16)?;
     show(
+        rt,
         4,
         4,
         &[0, 1, 2, 3, 4, 5, 6, 7, 8, 9, 10, 11, 12, 13, 14, 15],
         &[3, 3, 3, 2, 2, 2, 3],
         16,
-    );
+    )
 }
 
 // A million moves, the last of them as given.
-fn million(last: u8) {
+fn million(rt: &impl Print, last: u8) -> io::Result<()> {
     let mut moves = [0u8; 1000000];
     go_round(&mut moves);
     moves[999999] = last;
-    show_million(&moves);
+    show_million(rt, &moves)
 }
 
-fn show_million(moves: &[u8; 1000000]) {
-    show(2, 2, &[0, 1, 2, 3], moves, 16);
+fn show_million(rt: &impl Print, moves: &[u8; 1000000]) -> io::Result<()> {
+    show(rt, 2, 2, &[0, 1, 2, 3], moves, 16)
 }
 
 // Right, down, left, up, and again.
 fn go_round(moves: &mut [u8; 1000000]) {
-    let mut i = 0;
-    while i < 1000000 {
+    for i in 0..1000000 {
         moves[i] = turn(i % 4);
-        i += 1;
     }
 }
 
@@ -163,11 +172,11 @@ fn turn(k: usize) -> u8 {
     }
 }
 
-fn main() {
-    worked();
-    larger();
-    refused();
-    million(0);
-    million(4);
-    million(3);
+fn main(rt: HostRuntime) -> io::Result<()> {
+    worked(&rt)?;
+    larger(&rt)?;
+    refused(&rt)?;
+    million(&rt, 0)?;
+    million(&rt, 4)?;
+    million(&rt, 3)
 }
