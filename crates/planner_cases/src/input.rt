@@ -1,46 +1,44 @@
 // The numbers on standard input, one after the other: each is its digits, and the byte behind them is passed over.
-ghost use Rattle.std.specs.Prelude.{◌≤◌};
+ghost use Rattle.std.specs.Prelude.{◌≤◌, IfOk};
 
-use libc::STDIN_FILENO;
+use std::io;
+use std::io::Read;
 
 // The next number; 0 at the end. No number of a job is above 1,000,000.
-pub fn next_number() -> u32
-    ensures { result ≤ 10000009 }
+pub fn next_number(input: &mut impl Read) -> io::Result<u32>
+    ensures { IfOk result (λ n. n ≤ 10000009) }
 {
     let mut n: u32 = 0;
-    let mut turns: u64 = 10;
-    while turns > 0 {
-        let d = next_digit();
+    for _ in 0..10 {
+        let d = next_digit(input)?;
         if 9 < d {
-            return n;
+            return Ok(n);
         }
         if 1000000 < n {
-            return n;
+            return Ok(n);
         }
         n = 10 * n + d;
-        turns -= 1;
     }
-    n
+    Ok(n)
 }
 
 // As many of the next numbers as the buffer holds.
-pub fn read_cells(cells: &mut [u8]) {
-    let mut i = 0;
-    while i < cells.len() {
-        cells[i] = next_cell();
-        i += 1;
+pub fn read_cells(input: &mut impl Read, cells: &mut [u8]) -> io::Result<()> {
+    for cell in cells {
+        *cell = next_cell(input)?;
     }
+    Ok(())
 }
 
-fn next_cell() -> u8 {
-    (next_number() % 256) as u8
+fn next_cell(input: &mut impl Read) -> io::Result<u8> {
+    Ok((next_number(input)? % 256) as u8)
 }
 
 // The next byte as a digit: 10 for what is none, and at the end.
-fn next_digit() -> u32 {
+fn next_digit(input: &mut impl Read) -> io::Result<u32> {
     let mut one = [0u8; 1];
-    io::read_full(STDIN_FILENO, &mut one);
-    digit(one[0])
+    input.read(&mut one)?;
+    Ok(digit(one[0]))
 }
 
 fn digit(byte: u8) -> u32 {

@@ -15,13 +15,15 @@ mod input;
 ghost use Rattle.std.specs.Prelude.{◌≤◌};
 
 use crate::input::{next_number, read_cells};
-use libc::STDOUT_FILENO;
 use planner::Answer;
 use planner::call::{plan, plan_short};
 use planner::fields::{cell, number, plan_length, visits};
+use std::io;
+use std::io::Read;
 
 // Plans with the weight p over q, with the first `room` numbers of the table.
 fn show(
+    rt: &impl Print,
     width: u32,
     height: u32,
     cells: &[u8],
@@ -30,7 +32,7 @@ fn show(
     p: u32,
     q: u32,
     room: usize,
-)
+) -> io::Result<()>
     requires { room ≤ 484 }
 {
     let mut moves = [0u8; 120];
@@ -48,12 +50,19 @@ fn show(
         &mut moves,
         &mut table[..room],
     );
-    print_answer(answer, &moves);
-    print_buffers(ceiling, plan_length(answer), &moves, &table);
+    print_answer(rt, answer, &moves)?;
+    print_buffers(rt, ceiling, plan_length(answer), &moves, &table)
 }
 
 // The same by the short call, at the weight 3 over 2.
-fn show_short(width: u32, height: u32, cells: &[u8], ceiling: i32, budget: u32) {
+fn show_short(
+    rt: &impl Print,
+    width: u32,
+    height: u32,
+    cells: &[u8],
+    ceiling: i32,
+    budget: u32,
+) -> io::Result<()> {
     let mut moves = [0u8; 120];
     let mut table = [0u16; 484];
     fill_moves(&mut moves);
@@ -61,8 +70,8 @@ fn show_short(width: u32, height: u32, cells: &[u8], ceiling: i32, budget: u32) 
     let answer = plan_short(
         width, height, cells, ceiling, budget, &mut moves, &mut table,
     );
-    print_answer(answer, &moves);
-    print_buffers(ceiling, plan_length(answer), &moves, &table);
+    print_answer(rt, answer, &moves)?;
+    print_buffers(rt, ceiling, plan_length(answer), &moves, &table)
 }
 
 // The noise: no byte is a move, and no number is 0 or a value of the search.
@@ -75,78 +84,78 @@ fn noise_number(i: usize) -> u16 {
 }
 
 fn fill_moves(moves: &mut [u8]) {
-    let mut i = 0;
-    while i < moves.len() {
+    for i in 0..moves.len() {
         moves[i] = noise_byte(i);
-        i += 1;
     }
 }
 
 fn fill_table(table: &mut [u16]) {
-    let mut i = 0;
-    while i < table.len() {
+    for i in 0..table.len() {
         table[i] = noise_number(i);
-        i += 1;
     }
 }
 
-fn print_answer(answer: Answer, moves: &[u8; 120]) {
-    io::print_decimal(STDOUT_FILENO, number(answer) as u64);
-    print_field(cell(answer));
-    print_field(plan_length(answer));
-    print_field(visits(answer) as usize);
-    print_letters(plan_length(answer), moves);
+fn print_answer(rt: &impl Print, answer: Answer, moves: &[u8; 120]) -> io::Result<()> {
+    print!(rt; "{}", number(answer))?;
+    print_field(rt, cell(answer))?;
+    print_field(rt, plan_length(answer))?;
+    print_field(rt, visits(answer) as usize)?;
+    print_letters(rt, plan_length(answer), moves)
 }
 
 // A number with a space before it.
-fn print_field(n: usize) {
-    io::write_all(STDOUT_FILENO, b" ");
-    io::print_decimal(STDOUT_FILENO, n as u64);
+fn print_field(rt: &impl Print, n: usize) -> io::Result<()> {
+    print!(rt; " {n}")
 }
 
-fn print_letters(length: usize, moves: &[u8; 120]) {
-    io::write_all(STDOUT_FILENO, b" ");
+fn print_letters(rt: &impl Print, length: usize, moves: &[u8; 120]) -> io::Result<()> {
+    print!(rt; " ")?;
     if length == 0 {
-        io::write_all(STDOUT_FILENO, b"-");
+        print!(rt; "-")?;
     }
-    let mut i = 0;
-    while i < 120 {
+    for i in 0..120 {
         if i < length {
-            print_letter(moves[i]);
+            print_letter(rt, moves[i])?;
         }
-        i += 1;
     }
+    Ok(())
 }
 
-fn print_letter(m: u8) {
+fn print_letter(rt: &impl Print, m: u8) -> io::Result<()> {
     match m {
-        0 => io::write_all(STDOUT_FILENO, b"U"),
-        1 => io::write_all(STDOUT_FILENO, b"L"),
-        2 => io::write_all(STDOUT_FILENO, b"R"),
-        3 => io::write_all(STDOUT_FILENO, b"D"),
-        _ => io::write_all(STDOUT_FILENO, b"?"),
-    };
+        0 => print!(rt; "U"),
+        1 => print!(rt; "L"),
+        2 => print!(rt; "R"),
+        3 => print!(rt; "D"),
+        _ => print!(rt; "?"),
+    }
 }
 
 // Where the table's first numbers are not zeros, they are among what must be as it was.
-fn print_buffers(ceiling: i32, length: usize, moves: &[u8; 120], table: &[u16; 484]) {
+fn print_buffers(
+    rt: &impl Print,
+    ceiling: i32,
+    length: usize,
+    moves: &[u8; 120],
+    table: &[u16; 484],
+) -> io::Result<()> {
     let rows = rows_of(ceiling);
     let zeros = all_zeros(rows, table);
-    print_yes(zeros);
+    print_yes(rt, zeros)?;
     let kept = moves_kept(length, moves);
     if zeros {
-        print_yes(kept && table_kept(rows, table));
+        print_yes(rt, kept && table_kept(rows, table))?;
     } else {
-        print_yes(kept && table_kept(0, table));
+        print_yes(rt, kept && table_kept(0, table))?;
     }
-    io::write_all(STDOUT_FILENO, b"\n");
+    println!(rt)
 }
 
-fn print_yes(yes: bool) {
+fn print_yes(rt: &impl Print, yes: bool) -> io::Result<()> {
     if yes {
-        io::write_all(STDOUT_FILENO, b" yes");
+        print!(rt; " yes")
     } else {
-        io::write_all(STDOUT_FILENO, b" no");
+        print!(rt; " no")
     }
 }
 
@@ -160,104 +169,104 @@ fn rows_of(ceiling: i32) -> usize {
 
 // The first n table numbers are 0.
 fn all_zeros(n: usize, table: &[u16; 484]) -> bool {
-    let mut i = 0;
-    while i < 484 {
+    for i in 0..484 {
         if i < n && table[i] != 0 {
             return false;
         }
-        i += 1;
     }
     true
 }
 
 // The move bytes from place n on are the noise.
 fn moves_kept(n: usize, moves: &[u8; 120]) -> bool {
-    let mut i = 0;
-    while i < 120 {
+    for i in 0..120 {
         if n <= i && moves[i] != noise_byte(i) {
             return false;
         }
-        i += 1;
     }
     true
 }
 
 // The table numbers from place n on are the noise.
 fn table_kept(n: usize, table: &[u16; 484]) -> bool {
-    let mut i = 0;
-    while i < 484 {
+    for i in 0..484 {
         if n <= i && table[i] != noise_number(i) {
             return false;
         }
-        i += 1;
     }
     true
 }
 
 // The worked table, in its order: weight 1 over 1, buffers long enough. Where the distance is above the ceiling it is 10 after one visit.
-fn worked() {
-    show(2, 2, &[0, 1, 2, 3], 0, 1, 1, 1, 484);
-    show(2, 2, &[1, 0, 2, 3], 1, 2, 1, 1, 484);
-    show(2, 2, &[1, 0, 2, 3], 1, 1, 1, 1, 484);
-    show(2, 2, &[1, 0, 2, 3], 0, 1, 1, 1, 484);
-    show(2, 2, &[3, 2, 1, 0], 6, 7, 1, 1, 484);
-    show(2, 2, &[3, 2, 1, 0], 5, 11, 1, 1, 484);
-    show(2, 2, &[3, 2, 1, 0], 5, 10, 1, 1, 484);
-    show(2, 2, &[0, 3, 1, 2], 4, 5, 1, 1, 484);
-    show(2, 2, &[0, 3, 1, 2], 3, 7, 1, 1, 484);
-    show(3, 2, &[0, 2, 1, 3, 5, 4], 2, 8, 1, 1, 484);
-    show(3, 2, &[0, 2, 1, 3, 5, 4], 2, 7, 1, 1, 484);
-    show(2, 2, &[0, 2, 1, 3], 6, 9, 1, 1, 484);
-    show(2, 2, &[0, 1, 1, 4], 6, 9, 1, 1, 484);
-    show(2, 2, &[0, 1, 1, 3], 6, 9, 1, 1, 484);
+fn worked(rt: &impl Print) -> io::Result<()> {
+    show(rt, 2, 2, &[0, 1, 2, 3], 0, 1, 1, 1, 484)?;
+    show(rt, 2, 2, &[1, 0, 2, 3], 1, 2, 1, 1, 484)?;
+    show(rt, 2, 2, &[1, 0, 2, 3], 1, 1, 1, 1, 484)?;
+    show(rt, 2, 2, &[1, 0, 2, 3], 0, 1, 1, 1, 484)?;
+    show(rt, 2, 2, &[3, 2, 1, 0], 6, 7, 1, 1, 484)?;
+    show(rt, 2, 2, &[3, 2, 1, 0], 5, 11, 1, 1, 484)?;
+    show(rt, 2, 2, &[3, 2, 1, 0], 5, 10, 1, 1, 484)?;
+    show(rt, 2, 2, &[0, 3, 1, 2], 4, 5, 1, 1, 484)?;
+    show(rt, 2, 2, &[0, 3, 1, 2], 3, 7, 1, 1, 484)?;
+    show(rt, 3, 2, &[0, 2, 1, 3, 5, 4], 2, 8, 1, 1, 484)?;
+    show(rt, 3, 2, &[0, 2, 1, 3, 5, 4], 2, 7, 1, 1, 484)?;
+    show(rt, 2, 2, &[0, 2, 1, 3], 6, 9, 1, 1, 484)?;
+    show(rt, 2, 2, &[0, 1, 1, 4], 6, 9, 1, 1, 484)?;
+    show(rt, 2, 2, &[0, 1, 1, 3], 6, 9, 1, 1, 484)
 }
 
 // The sentences under the table, in their order: the ceiling, the weight, the table's length.
-fn boundaries() {
-    show(2, 2, &[3, 2, 1, 0], -1, 7, 1, 1, 484);
-    show(2, 2, &[3, 2, 1, 0], 121, 7, 1, 1, 484);
-    show(5, 2, &[3, 2, 1, 0], -1, 7, 1, 1, 484);
-    show(2, 2, &[1, 0, 2, 3], 1, 2, 1, 2, 484);
-    show(2, 2, &[1, 0, 2, 3], 1, 2, 65, 1, 484);
-    show(2, 2, &[1, 0, 2, 3], 1, 2, 64, 1, 484);
-    show(2, 2, &[0, 1, 2, 3], 120, 1, 1, 1, 483);
-    show(2, 2, &[0, 1, 2, 3], 120, 1, 1, 1, 484);
+fn boundaries(rt: &impl Print) -> io::Result<()> {
+    show(rt, 2, 2, &[3, 2, 1, 0], -1, 7, 1, 1, 484)?;
+    show(rt, 2, 2, &[3, 2, 1, 0], 121, 7, 1, 1, 484)?;
+    show(rt, 5, 2, &[3, 2, 1, 0], -1, 7, 1, 1, 484)?;
+    show(rt, 2, 2, &[1, 0, 2, 3], 1, 2, 1, 2, 484)?;
+    show(rt, 2, 2, &[1, 0, 2, 3], 1, 2, 65, 1, 484)?;
+    show(rt, 2, 2, &[1, 0, 2, 3], 1, 2, 64, 1, 484)?;
+    show(rt, 2, 2, &[0, 1, 2, 3], 120, 1, 1, 1, 483)?;
+    show(rt, 2, 2, &[0, 1, 2, 3], 120, 1, 1, 1, 484)
 }
 
 // A call with two faults is refused for the one that is tested first.
-fn order_of_tests() {
-    show(2, 2, &[0, 1, 1, 4], -1, 0, 1, 2, 0);
-    show(2, 2, &[0, 2, 1, 3], 121, 0, 1, 2, 0);
-    show(2, 2, &[0, 2, 1, 3], 120, 0, 1, 2, 483);
-    show(2, 2, &[0, 2, 1, 3], 120, 1000001, 1, 2, 483);
-    show(2, 2, &[0, 2, 1, 3], 120, 1000000, 1, 0, 483);
-    show(2, 2, &[0, 2, 1, 3], 120, 1000000, 2, 2, 483);
-    show(2, 2, &[0, 2, 1, 3], 120, 1000000, 63, 35, 483);
-    show(2, 2, &[0, 2, 1, 3], 120, 1000000, 1, 1, 483);
-    show(2, 2, &[0, 2, 1, 3], 120, 1000000, 1, 1, 484);
+fn order_of_tests(rt: &impl Print) -> io::Result<()> {
+    show(rt, 2, 2, &[0, 1, 1, 4], -1, 0, 1, 2, 0)?;
+    show(rt, 2, 2, &[0, 2, 1, 3], 121, 0, 1, 2, 0)?;
+    show(rt, 2, 2, &[0, 2, 1, 3], 120, 0, 1, 2, 483)?;
+    show(rt, 2, 2, &[0, 2, 1, 3], 120, 1000001, 1, 2, 483)?;
+    show(rt, 2, 2, &[0, 2, 1, 3], 120, 1000000, 1, 0, 483)?;
+    show(rt, 2, 2, &[0, 2, 1, 3], 120, 1000000, 2, 2, 483)?;
+    show(rt, 2, 2, &[0, 2, 1, 3], 120, 1000000, 63, 35, 483)?;
+    show(rt, 2, 2, &[0, 2, 1, 3], 120, 1000000, 1, 1, 483)?;
+    show(rt, 2, 2, &[0, 2, 1, 3], 120, 1000000, 1, 1, 484)
 }
 
 // Plans the next job of standard input. No where there is none.
-fn show_next() -> bool {
-    let width = next_number();
-    let height = next_number();
+fn show_next(rt: &impl Print, input: &mut impl Read) -> io::Result<bool> {
+    let width = next_number(input)?;
+    let height = next_number(input)?;
     let count = cell_count(width, height);
     if count == 0 {
-        return false;
+        return Ok(false);
     }
     let mut cells = [0u8; 16];
-    show_job(width, height, &mut cells[..count]);
-    true
+    show_job(rt, input, width, height, &mut cells[..count])?;
+    Ok(true)
 }
 
 // The rest of a job, whose cells fill the buffer.
-fn show_job(width: u32, height: u32, cells: &mut [u8]) {
-    let ceiling = next_number() as i32;
-    let budget = next_number();
-    let p = next_number();
-    let q = next_number();
-    read_cells(cells);
-    show(width, height, cells, ceiling, budget, p, q, 484);
+fn show_job(
+    rt: &impl Print,
+    input: &mut impl Read,
+    width: u32,
+    height: u32,
+    cells: &mut [u8],
+) -> io::Result<()> {
+    let ceiling = next_number(input)? as i32;
+    let budget = next_number(input)?;
+    let p = next_number(input)?;
+    let q = next_number(input)?;
+    read_cells(input, cells)?;
+    show(rt, width, height, cells, ceiling, budget, p, q, 484)
 }
 
 // How many cells a cabinet has; 0 for sides that none has.
@@ -271,18 +280,20 @@ fn cell_count(width: u32, height: u32) -> usize
 }
 
 // Plans every job of standard input.
-fn jobs() {
-    let mut turns: u64 = 1000;
-    while turns > 0 && show_next() {
-        turns -= 1;
+fn jobs(rt: &impl Print, input: &mut impl Read) -> io::Result<()> {
+    for _ in 0..1000 {
+        if !show_next(rt, input)? {
+            break;
+        }
     }
+    Ok(())
 }
 
-fn main() {
-    worked();
-    boundaries();
-    order_of_tests();
-    show_short(2, 2, &[3, 2, 1, 0], 6, 7);
-    show_short(2, 3, &[5, 2, 1, 0, 3, 4], 20, 18);
-    jobs();
+fn main(rt: HostRuntime) -> io::Result<()> {
+    worked(&rt)?;
+    boundaries(&rt)?;
+    order_of_tests(&rt)?;
+    show_short(&rt, 2, 2, &[3, 2, 1, 0], 6, 7)?;
+    show_short(&rt, 2, 3, &[5, 2, 1, 0, 3, 4], 20, 18)?;
+    jobs(&rt, &mut rt.stdin())
 }
