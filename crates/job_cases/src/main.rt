@@ -8,32 +8,45 @@
 ghost use Rattle.std.specs.Prelude.{◌≤◌};
 
 use jobline::answer::answer_line;
-use libc::{STDIN_FILENO, STDOUT_FILENO};
+use std::io;
+use std::io::{BufReader, BufWriter, ErrorKind, Read, Write};
 
 // Answers the next text. No where the input ends, or where it is no text behind its length.
-fn answer_next() -> bool {
+fn answer_next(input: &mut impl Read, output: &mut impl Write) -> io::Result<bool> {
     let mut head = [0u8; 2];
-    let got = io::read_full(STDIN_FILENO, &mut head);
-    if got < 2 {
-        return false;
+    if !read_full(input, &mut head)? {
+        return Ok(false);
     }
     let length = number(head[0]) + 256 * number(head[1]);
     if length > 512 {
-        return false;
+        return Ok(false);
     }
     let mut text = [0u8; 512];
-    answer_text(&mut text[..length])
+    answer_text(input, output, &mut text[..length])
 }
 
 // Fills the buffer with a text and answers it.
-fn answer_text(text: &mut [u8]) -> bool {
-    let n = io::read_full(STDIN_FILENO, text);
-    if n < text.len() {
-        return false;
+fn answer_text(
+    input: &mut impl Read,
+    output: &mut impl Write,
+    text: &mut [u8],
+) -> io::Result<bool> {
+    if !read_full(input, text)? {
+        return Ok(false);
     }
     let mut line = [0u8; 160];
     let k = answer_line(text, &mut line);
-    io::write_all(STDOUT_FILENO, &line[..k])
+    output.write_all(&line[..k])?;
+    Ok(true)
+}
+
+// Fills the buffer. No where the input ends first.
+fn read_full(input: &mut impl Read, buffer: &mut [u8]) -> io::Result<bool> {
+    match input.read_exact(buffer) {
+        Ok(()) => Ok(true),
+        Err(e) if e.kind() == ErrorKind::UnexpectedEof => Ok(false),
+        Err(e) => Err(e),
+    }
 }
 
 fn number(x: u8) -> usize
@@ -42,9 +55,13 @@ fn number(x: u8) -> usize
     x as usize
 }
 
-fn main() {
-    let mut turns: u64 = 1000000;
-    while turns > 0 && answer_next() {
-        turns -= 1;
+fn main(rt: HostRuntime) -> io::Result<()> {
+    let mut input = BufReader::new(rt.alloc(), rt.stdin())?;
+    let mut output = BufWriter::new(rt.alloc(), rt.stdout())?;
+    for _ in 0..1000000 {
+        if !answer_next(&mut input, &mut output)? {
+            break;
+        }
     }
+    output.flush()
 }
