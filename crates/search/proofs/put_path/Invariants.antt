@@ -1,4 +1,4 @@
--- The invariants and measures of `put_path`. Assumes nothing.
+-- What the loop of `search::put_path` keeps, and what falls at each turn. Assumes nothing.
 use Prim.Native.Nat.{ℕ, ◌-◌, ◌≤◌}
 use mathlib.Core.Path.{◌≡◌}
 use mathlib.Core.List.{List, ◌++◌}

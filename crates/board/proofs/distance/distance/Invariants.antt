@@ -1,4 +1,4 @@
--- The invariants and measures of `distance.distance`. Assumes nothing.
+-- What the loop of `board::distance::distance` keeps, and what falls at each turn. Assumes nothing.
 use Prim.Native.Nat.{ℕ, suc, ◌+◌, ◌*◌, ◌-◌, ◌≤◌}
 use mathlib.Core.Path.{◌≡◌}
 use mathlib.Core.List.{List, [], ◌∷◌}

@@ -1,4 +1,4 @@
--- The invariants and measures of `distance.near_table`. Assumes nothing.
+-- What the loop of `board::distance::near_table` keeps, and what falls at each turn. Assumes nothing.
 use Prim.Native.Nat.{◌-◌}
 use Rattle.board.proofs.code.Filling.{Filled}
 use Rattle.board.proofs.distance.near_table.Given as goal

@@ -1,4 +1,4 @@
--- The invariants and measures of `distance.put_near`. Assumes nothing.
+-- What the loop of `board::distance::put_near` keeps, and what falls at each turn. Assumes nothing.
 use Prim.Native.Nat.{◌*◌, ◌-◌, ◌≤◌}
 use Rattle.board.specs.Distance.{tray_distance, RunPut}
 use Rattle.board.proofs.distance.put_near.Given as goal

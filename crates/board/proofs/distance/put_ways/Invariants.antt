@@ -1,4 +1,4 @@
--- The invariants and measures of `distance.put_ways`. Assumes nothing.
+-- What the loop of `board::distance::put_ways` keeps, and what falls at each turn. Assumes nothing.
 use Prim.Native.Nat.{◌+◌, ◌*◌, ◌-◌, ◌≤◌}
 use Rattle.board.specs.Distance.{way_at, RunPut}
 use Rattle.board.proofs.distance.put_ways.Given as goal

@@ -1,4 +1,4 @@
--- The invariants and measures of `faults.first_holding`. Assumes nothing.
+-- What the loop of `board::faults::first_holding` keeps, and what falls at each turn. Assumes nothing.
 use Prim.Native.Nat.{ℕ, ◌-◌}
 use mathlib.Core.List.{List}
 use mathlib.Core.Bool.{Bool}

@@ -1,4 +1,4 @@
--- The invariants and measures of `faults.first_repeat`. Assumes nothing.
+-- What the loop of `board::faults::first_repeat` keeps, and what falls at each turn. Assumes nothing.
 use Prim.Native.Nat.{◌-◌}
 use Rattle.board.specs.Faults.{repeats}
 use Rattle.board.proofs.code.FirstLoop.{Looking}

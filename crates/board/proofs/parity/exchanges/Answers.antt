@@ -9,15 +9,16 @@ use Rattle.board.specs.Board.{at}
 use Rattle.board.specs.Order.{FewExchanges}
 use Rattle.board.proofs.code.Cycles.{turns_left, few-turns, in_hand, taken_in_hand, first-turn, ends}
 use Rattle.board.proofs.code.Cycles.{home_below, home-turn, home-less, exchange-turn, exchange-less}
+use Rattle.board.proofs.parity.exchanges.Invariants.{measure}
 use Rattle.board.proofs.parity.exchanges.Goals as goal
 
--- the measure falls at each turn (loop-less, loop-less-2) and starts below 2n: so the loop has fewer than 2n turns
-pub starts-below :
+-- the measure falls at each turn (the goals `loop-i-smaller`) and starts below 2n: so the loop has fewer than 2n turns
+pub starts_below :
     (n : ℕ) (cells : List ℕ)
     → length (take n cells) ≡ n
     → 0 < n
-    → turns_left (in_hand n cells 0 (at cells 0)) n 0 < 2 * n
-starts-below n cells long some = rw (taken_in_hand n cells 0 some) (few-turns (take n cells) n long some)
+    → measure n cells (at cells 0) 0 < 2 * n
+starts_below n cells long some = rw (taken_in_hand n cells 0 some) (few-turns (take n cells) n long some)
 
 pub cell_count-n-requires : goal.cell_count-n-requires
 cell_count-n-requires c =

@@ -1,4 +1,4 @@
--- The invariants and measures of `read.cells_at`. Assumes nothing.
+-- What the loop of `jobline::read::cells_at` keeps, and what falls at each turn. Assumes nothing.
 use Prim.Native.Nat.{◌-◌}
 use Rattle.jobline.proofs.code.Taken.{Taken}
 use Rattle.jobline.proofs.read.cells_at.Given as goal

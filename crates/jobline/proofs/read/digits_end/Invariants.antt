@@ -1,4 +1,4 @@
--- The invariants and measures of `read.digits_end`. Assumes nothing.
+-- What the loop of `jobline::read::digits_end` keeps, and what falls at each turn. Assumes nothing.
 use Prim.Native.Nat.{◌+◌, ◌-◌}
 use mathlib.Core.Path.{◌≡◌}
 use lib.ListN.{length, drop}

@@ -1,4 +1,4 @@
--- The invariants and measures of `read.value_between`. Assumes nothing.
+-- What the loop of `jobline::read::value_between` keeps, and what falls at each turn. Assumes nothing.
 use Prim.Native.Nat.{ℕ, ◌-◌, ◌^◌, ◌≤◌, ◌<◌}
 use mathlib.Core.Path.{◌≡◌}
 use mathlib.Core.List.{List}

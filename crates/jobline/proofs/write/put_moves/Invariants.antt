@@ -1,4 +1,4 @@
--- The invariants and measures of `write.put_moves`. Assumes nothing.
+-- What the loop of `jobline::write::put_moves` keeps, and what falls at each turn. Assumes nothing.
 use Prim.Native.Nat.{◌-◌}
 use mathlib.Core.List.{map}
 use lib.ListN.{length}

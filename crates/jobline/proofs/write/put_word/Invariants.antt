@@ -1,4 +1,4 @@
--- The invariants and measures of `write.put_word`. Assumes nothing.
+-- What the loop of `jobline::write::put_word` keeps, and what falls at each turn. Assumes nothing.
 use Prim.Native.Nat.{◌-◌}
 use lib.ListN.{length}
 use Rattle.jobline.proofs.code.Puts.{Stored}

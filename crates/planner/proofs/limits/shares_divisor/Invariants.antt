@@ -1,4 +1,4 @@
--- The invariants and measures of `limits.shares_divisor`. Assumes nothing.
+-- What the loop of `planner::limits::shares_divisor` keeps, and what falls at each turn. Assumes nothing.
 use Prim.Native.Nat.{suc, ◌-◌}
 use Rattle.planner.proofs.code.Dividing.{Sought}
 use Rattle.planner.proofs.limits.shares_divisor.Given as goal

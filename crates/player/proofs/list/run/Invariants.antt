@@ -1,4 +1,4 @@
--- The invariants and measures of `list.run`. Assumes nothing.
+-- What the loop of `player::list::run` keeps, and what falls at each turn. Assumes nothing.
 use Prim.Native.Nat.{ℕ, ◌-◌, ◌≤◌, ◌<◌}
 use mathlib.Core.Path.{◌≡◌}
 use mathlib.Core.Bool.{false}

@@ -1,4 +1,4 @@
--- The invariants and measures of `groups.group_count`. Assumes nothing.
+-- What the loop of `records::groups::group_count` keeps, and what falls at each turn. Assumes nothing.
 use Prim.Native.Nat.{◌+◌}
 use mathlib.Core.Path.{◌≡◌}
 use lib.ListN.{length}

@@ -1,4 +1,4 @@
--- The invariants and measures of `groups.groups_count`. Assumes nothing.
+-- What the loop of `records::groups::groups_count` keeps, and what falls at each turn. Assumes nothing.
 use Prim.Native.Nat.{◌-◌}
 use lib.ListN.{length, take}
 use Rattle.records.specs.Put.{Counted}

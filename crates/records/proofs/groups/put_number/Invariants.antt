@@ -1,4 +1,4 @@
--- The invariants and measures of `groups.put_number`. Assumes nothing.
+-- What the loop of `records::groups::put_number` keeps, and what falls at each turn. Assumes nothing.
 use Prim.Native.Nat.{ℕ, ◌+◌, ◌/◌}
 use mathlib.Core.Path.{◌≡◌}
 use mathlib.Core.List.{List, ◌++◌}

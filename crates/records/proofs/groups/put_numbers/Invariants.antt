@@ -1,4 +1,4 @@
--- The invariants and measures of `groups.put_numbers`. Assumes nothing.
+-- What the loop of `records::groups::put_numbers` keeps, and what falls at each turn. Assumes nothing.
 use Prim.Native.Nat.{◌-◌}
 use lib.ListN.{length, take}
 use Rattle.records.specs.Groups.{spelled}

@@ -1,4 +1,4 @@
--- The invariants and measures of `mark.mark_before`. Assumes nothing.
+-- What the loop of `records::mark::mark_before` keeps, and what falls at each turn. Assumes nothing.
 use Prim.Native.Nat.{ℕ, ◌-◌, ◌≤◌}
 use mathlib.Core.Path.{◌≡◌}
 use mathlib.Core.List.{List}

@@ -1,4 +1,4 @@
--- The invariants and measures of `put.put_bytes`. Assumes nothing.
+-- What the loop of `records::put::put_bytes` keeps, and what falls at each turn. Assumes nothing.
 use Prim.Native.Nat.{◌+◌, ◌-◌, ◌≤◌}
 use lib.ListN.{length, take}
 use Rattle.records.specs.Put.{Put}

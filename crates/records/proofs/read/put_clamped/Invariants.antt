@@ -1,4 +1,4 @@
--- The invariants and measures of `read.put_clamped`. Assumes nothing.
+-- What the loop of `records::read::put_clamped` keeps, and what falls at each turn. Assumes nothing.
 use Prim.Native.Nat.{◌-◌}
 use mathlib.Core.Path.{◌≡◌}
 use mathlib.Core.List.{map}

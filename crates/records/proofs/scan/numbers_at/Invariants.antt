@@ -1,4 +1,4 @@
--- The invariants and measures of `scan.numbers_at`. Assumes nothing.
+-- What the loop of `records::scan::numbers_at` keeps, and what falls at each turn. Assumes nothing.
 use Prim.Native.Nat.{◌-◌}
 use lib.ListN.{length}
 use Rattle.records.proofs.code.Taking.{Taken}
