@@ -9,10 +9,10 @@ ghost use Rattle.std.specs.Prelude.{◌≤◌};
 
 use jobline::answer::answer_line;
 use std::io;
-use std::io::{BufReader, BufWriter, ErrorKind, Read, Write};
+use std::io::{ErrorKind, Read};
 
 // Answers the next text. No where the input ends, or where it is no text behind its length.
-fn answer_next(input: &mut impl Read, output: &mut impl Write) -> io::Result<bool> {
+fn answer_next(rt: &impl Print, input: &mut impl Read) -> io::Result<bool> {
     let mut head = [0u8; 2];
     if !read_full(input, &mut head)? {
         return Ok(false);
@@ -22,21 +22,17 @@ fn answer_next(input: &mut impl Read, output: &mut impl Write) -> io::Result<boo
         return Ok(false);
     }
     let mut text = [0u8; 512];
-    answer_text(input, output, &mut text[..length])
+    answer_text(rt, input, &mut text[..length])
 }
 
 // Fills the buffer with a text and answers it.
-fn answer_text(
-    input: &mut impl Read,
-    output: &mut impl Write,
-    text: &mut [u8],
-) -> io::Result<bool> {
+fn answer_text(rt: &impl Print, input: &mut impl Read, text: &mut [u8]) -> io::Result<bool> {
     if !read_full(input, text)? {
         return Ok(false);
     }
     let mut line = [0u8; 160];
     let k = answer_line(text, &mut line);
-    output.write_all(&line[..k])?;
+    rt.write_all(&line[..k])?;
     Ok(true)
 }
 
@@ -56,12 +52,11 @@ fn number(x: u8) -> usize
 }
 
 fn main(rt: HostRuntime) -> io::Result<()> {
-    let mut input = BufReader::new(rt.alloc(), rt.stdin())?;
-    let mut output = BufWriter::new(rt.alloc(), rt.stdout())?;
+    let mut input = rt.stdin();
     for _ in 0..1000000 {
-        if !answer_next(&mut input, &mut output)? {
+        if !answer_next(&rt, &mut input)? {
             break;
         }
     }
-    output.flush()
+    Ok(())
 }

@@ -53,10 +53,10 @@ use Rattle.player.proofs.Laws.{settled}
 use Rattle.records.specs.declared.PlanRefusal.{PlanRefusal}
 use Rattle.records.specs.declared.Written.{Written}
 use Rattle.records.specs.declared.Written.TheVariants.{Record, Refused as Unwritten}
-use Rattle.records.specs.Answers.{answer_number as writtenNumber, refusal_number as unwrittenNumber, refusal_place as unwrittenPlace}
+use Rattle.records.specs.Answers.{answer_number as written_number, refusal_number as unwritten_number, refusal_place as unwritten_place}
 use Rattle.records.specs.Record.{record_of}
 use Rattle.records.specs.Write.{Given, fields_of, write_tests, written}
-use Rattle.records.specs.Write.{shape_of as shapeOfFields}
+use Rattle.records.specs.Write.{shape_of as shape_of_fields}
 use Rattle.records.proofs.Promises as wrote
 use Rattle.lowpengine.specs.Bytes.{AllBytes, numbers, bytes_of, odd_byte, numbers_used}
 use Rattle.lowpengine.specs.Packed.{packed_plan, farthest, play_detail, packed_play, record_detail, packed_record}
@@ -87,7 +87,7 @@ pub place-told : (why : PlayRefusal) → refusal_place why < farthest → packed
 place-told why near = play_detail_read (Refused why) ∙ omega arith
 
 -- of every answer of the record writer: its number, and the detail
-pub record_fields : (a : Written) → (packed_record a % 256 ≡ writtenNumber a) × (packed_record a / 256 ≡ record_detail a)
+pub record_fields : (a : Written) → (packed_record a % 256 ≡ written_number a) × (packed_record a / 256 ≡ record_detail a)
 record_fields a = (record_number-read a, record_detail_read a)
 
 -- ---- settled
@@ -314,8 +314,8 @@ module _ (c : Call) (bytes : AllBytes c.table) (r : ℕ) (moves' table' : List �
 pub record UnwrittenBy (g : Given) (found : List ℕ) (k i : ℕ) : Type 0 where
   pub why : PlanRefusal
   pub first : FirstToHold (write_tests g found) why
-  pub number_is : unwrittenNumber why ≡ k
-  pub place_is : unwrittenPlace why ≡ i
+  pub number_is : unwritten_number why ≡ k
+  pub place_is : unwritten_place why ≡ i
 
 -- a record of L bytes was written: it is at the start of the output, and the bytes past it are as found; it has at most 149 bytes, and its
 -- list solves the board within the ceiling, which was given as a number of moves
@@ -324,15 +324,15 @@ pub record RecordTold (g : Given) (found out : List ℕ) (L : ℕ) : Type 0 wher
   pub most : L ≤ 149
   pub front : take L out ≡ record_of (fields_of g)
   pub rest : drop L out ≡ drop L found
-  pub solves : Solves (shapeOfFields (fields_of g)) g.board g.moves
+  pub solves : Solves (shape_of_fields (fields_of g)) g.board g.moves
   pub within : (ceiling : ℕ) → g.ceiling ≡ pos ceiling → length g.moves ≤ ceiling
 
 module _ (g : Given) (found : List ℕ) (r : ℕ) (out : List ℕ) (given : RecordGiven g found r out) where
   -- by which case the writer answers, with r's number and detail
   data Told : Type 0 where
-    record_of_lem : {k : ℕ} → (written g found).answer ≡ Record k → r % 256 ≡ 0 → r / 256 ≡ min k farthest → Told
-    refused_by : {why : PlanRefusal} → (written g found).answer ≡ Unwritten why → r % 256 ≡ unwrittenNumber why
-        → r / 256 ≡ min (unwrittenPlace why) farthest → Told
+    is_record : {k : ℕ} → (written g found).answer ≡ Record k → r % 256 ≡ 0 → r / 256 ≡ min k farthest → Told
+    refused_by : {why : PlanRefusal} → (written g found).answer ≡ Unwritten why → r % 256 ≡ unwritten_number why
+        → r / 256 ≡ min (unwritten_place why) farthest → Told
 
   told : Told
   told = go (written g found).answer refl
@@ -340,7 +340,7 @@ module _ (g : Given) (found : List ℕ) (r : ℕ) (out : List ℕ) (given : Reco
       go : (a : Written) → (written g found).answer ≡ a → Told
       go (Record k) is =
           let packs = given.result ∙ ap packed_record is in
-          record_of_lem is (ap (λ x. x % 256) packs ∙ record_number-read (Record k)) (ap (λ x. x / 256) packs ∙ record_detail_read (Record k))
+          is_record is (ap (λ x. x % 256) packs ∙ record_number-read (Record k)) (ap (λ x. x / 256) packs ∙ record_detail_read (Record k))
       go (Unwritten why) is =
           let packs = given.result ∙ ap packed_record is in
           refused_by is (ap (λ x. x % 256) packs ∙ record_number-read (Unwritten why))
@@ -351,7 +351,7 @@ module _ (g : Given) (found : List ℕ) (r : ℕ) (out : List ℕ) (given : Reco
   unwritten_exactly k Some-number = (λ e. go told e, λ it. gives it)
     where
       go : Told → r % 256 ≡ k → UnwrittenBy g found k (r / 256)
-      go (record_of_lem is zero_number detail) e = absurd (omega arith)
+      go (is_record is zero_number detail) e = absurd (omega arith)
       go (refused_by {why} is number detail) e =
           let first = (wrote.refused_exactly g found why).0 is in
           record {
@@ -371,7 +371,7 @@ module _ (g : Given) (found : List ℕ) (r : ℕ) (out : List ℕ) (given : Reco
   unwritten_leaves Some-number = go told
     where
       go : Told → out ≡ found
-      go (record_of_lem is zero_number detail) = absurd (omega arith)
+      go (is_record is zero_number detail) = absurd (omega arith)
       go (refused_by {why} is number detail) = given.out ∙ wrote.refusal-leaves g found why is
 
   -- 0 exactly when no condition holds
@@ -379,7 +379,7 @@ module _ (g : Given) (found : List ℕ) (r : ℕ) (out : List ℕ) (given : Reco
   written_exactly = (λ e. go told e, gives)
     where
       go : Told → r % 256 ≡ 0 → NoneHolds (write_tests g found)
-      go (record_of_lem {k} is zero_number detail) e = ((wrote.else_written g found k).0 is).0
+      go (is_record {k} is zero_number detail) e = ((wrote.else_written g found k).0 is).0
       go (refused_by {why} is number detail) e = absurd (omega (arith, unwritten_some why))
 
       gives : NoneHolds (write_tests g found) → r % 256 ≡ 0
@@ -393,7 +393,7 @@ module _ (g : Given) (found : List ℕ) (r : ℕ) (out : List ℕ) (given : Reco
     where
       go : Told → RecordTold g found out (r / 256)
       go (refused_by {why} is number detail) = absurd (omega (arith, unwritten_some why))
-      go (record_of_lem {k} is zero_number detail) =
+      go (is_record {k} is zero_number detail) =
           let few = wrote.record_at-most_149 g found k is in
           let exact : r / 256 ≡ k = omega arith in
           let long = ((wrote.else_written g found k).0 is).1 in

@@ -17,7 +17,7 @@ use Rattle.player.specs.declared.Played.TheVariants.{End, Refused}
 use Rattle.player.specs.Answers.{answer_number, refusal_place}
 use Rattle.records.specs.declared.Written.{Written}
 use Rattle.records.specs.declared.Written.TheVariants.{Record, Refused as Unwritten}
-use Rattle.records.specs.Answers.{answer_number as writtenNumber, refusal_place as unwrittenPlace}
+use Rattle.records.specs.Answers.{answer_number as written_number, refusal_place as unwritten_place}
 use Rattle.records.specs.declared.Numbers.{Numbers}
 use Rattle.records.specs.declared.ReadAnswer.{ReadAnswer}
 use Rattle.records.specs.declared.ReadAnswer.TheVariants.{Fields, Refused as Unread}
@@ -50,10 +50,10 @@ packed_play a = answer_number a + 2 ^ 8 * play_detail a
 -- of a record that was written: its length; of a refusal: the cell of 3 and 4, the place of 13 and 14, else 0
 abbrev pub record_detail : Written → ℕ
 record_detail (Record length) = min length farthest
-record_detail (Unwritten why) = min (unwrittenPlace why) farthest
+record_detail (Unwritten why) = min (unwritten_place why) farthest
 
 abbrev pub packed_record : Written → ℕ
-packed_record a = writtenNumber a + 2 ^ 8 * record_detail a
+packed_record a = written_number a + 2 ^ 8 * record_detail a
 
 -- the numbers of a record that was read do not run into each other
 pub record Narrow (n : Numbers) : Type 0 where

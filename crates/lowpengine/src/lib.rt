@@ -1,5 +1,5 @@
-// The entries for the line controller, which is written in C. A slice is a pointer, then a size_t. Any numbers and any bytes may be
-// given: no entry has a precondition but that the slices are the caller's.
+// The entries for the line controller, which is written in C; crate lowpengine_c exports them. Any numbers and any bytes may be given: no
+// entry has a precondition.
 //
 // specs/Bytes.antt has the table as bytes, specs/Packed.antt the answer as one number, specs/Given.antt what an entry gives;
 // proofs/Promises.antt collects what follows for the caller, proofs/ReadPromises.antt what follows of reading records.
@@ -31,8 +31,7 @@ use records::read::read;
 use records::write::write;
 
 // Plans with the weight p over q. The answer's number, cell, length and visits come back as one number, at bits 0, 8, 16 and 32.
-#[unsafe(no_mangle)]
-pub extern "C" fn lowpengine_plan(
+pub fn lowpengine_plan(
     width: u32,
     height: u32,
     board: &[u8],
@@ -51,8 +50,7 @@ pub extern "C" fn lowpengine_plan(
 }
 
 // The short call: no weight is given, and it is the planner's for the short call.
-#[unsafe(no_mangle)]
-pub extern "C" fn lowpengine_plan_short(
+pub fn lowpengine_plan_short(
     width: u32,
     height: u32,
     board: &[u8],
@@ -72,14 +70,7 @@ pub extern "C" fn lowpengine_plan_short(
 
 // Plays a move list. The number comes back at bit 0; from bit 8 on 1 or 0 for whether the list ends at the goal, or a refusal's cell
 // or place.
-#[unsafe(no_mangle)]
-pub extern "C" fn lowpengine_play(
-    width: u32,
-    height: u32,
-    board: &[u8],
-    moves: &[u8],
-    out: &mut [u8],
-) -> u64
+pub fn lowpengine_play(width: u32, height: u32, board: &[u8], moves: &[u8], out: &mut [u8]) -> u64
     ensures { PlayGiven width height board.now moves.now out.old result out.new }
 {
     let answer = play(width, height, board, moves, out);
@@ -87,8 +78,7 @@ pub extern "C" fn lowpengine_play(
 }
 
 // Writes the record of a plan. The number comes back at bit 0; from bit 8 on the record's length, or a refusal's cell or place.
-#[unsafe(no_mangle)]
-pub extern "C" fn lowpengine_write_record(
+pub fn lowpengine_write_record(
     width: u32,
     height: u32,
     board: &[u8],
@@ -109,8 +99,7 @@ pub extern "C" fn lowpengine_write_record(
 
 // Reads a record back. The number comes back at bit 0; of a record that was read width, height, ceiling, p, q, length and visits at bits 8,
 // 11, 14, 21, 28, 35 and 42, of a refusal its place from bit 8 on.
-#[unsafe(no_mangle)]
-pub extern "C" fn lowpengine_read_record(record: &[u8], out: &mut [u8]) -> u64
+pub fn lowpengine_read_record(record: &[u8], out: &mut [u8]) -> u64
     ensures { ReadGiven «record».now out.old result out.new }
 {
     let answer = read(record, out);
@@ -119,8 +108,7 @@ pub extern "C" fn lowpengine_read_record(record: &[u8], out: &mut [u8]) -> u64
 
 // Tests 1 to 4, and then test 9 alone, for each key press. The number comes back at bit 0, from bit 8 on the cell of 3 and 4; 0 says that
 // test 9 does not hold, and no more.
-#[unsafe(no_mangle)]
-pub extern "C" fn lowpengine_reachable(width: u32, height: u32, board: &[u8]) -> u64
+pub fn lowpengine_reachable(width: u32, height: u32, board: &[u8]) -> u64
     ensures { result ≡ packed_reach width height board.now }
 {
     packed_reach(width, height, board)

@@ -8,7 +8,7 @@ use Rattle.planner.proofs.theory.Small.{answered-small}
 use Rattle.player.specs.declared.Played.{Played}
 use Rattle.player.specs.Answers.{answer_number}
 use Rattle.records.specs.declared.Written.{Written}
-use Rattle.records.specs.Answers.{answer_number as writtenNumber}
+use Rattle.records.specs.Answers.{answer_number as written_number}
 use Rattle.records.specs.declared.Numbers.{Numbers}
 use Rattle.records.specs.declared.ReadAnswer.{ReadAnswer}
 use Rattle.records.specs.declared.ReadAnswer.TheVariants.{Fields}
@@ -45,7 +45,7 @@ pub play_detail_read : (a : Played) → packed_play a / 256 ≡ play_detail a
 play_detail_read a = omega (arith, play_number a)
 
 -- any answer of the record writer
-pub record_number-read : (a : Written) → packed_record a % 256 ≡ writtenNumber a
+pub record_number-read : (a : Written) → packed_record a % 256 ≡ written_number a
 record_number-read a = omega (arith, record_number a)
 
 pub record_detail_read : (a : Written) → packed_record a / 256 ≡ record_detail a

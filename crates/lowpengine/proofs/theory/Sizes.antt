@@ -21,7 +21,7 @@ use Rattle.records.specs.declared.PlanRefusal.TheVariants.{Beyond, TooLong, NotS
 use Rattle.records.specs.declared.PlanRefusal.TheVariants.{Board as BadBoard, ShortOutput as NoRoom, NoMove as NoSuch, OffGrid as Off}
 use Rattle.records.specs.declared.Written.{Written}
 use Rattle.records.specs.declared.Written.TheVariants.{Record, Refused as Unwritten}
-use Rattle.records.specs.Answers.{refusal_number as unwrittenNumber, answer_number as writtenNumber}
+use Rattle.records.specs.Answers.{refusal_number as unwritten_number, answer_number as written_number}
 use Rattle.records.specs.declared.Numbers.{Numbers}
 use Rattle.records.specs.declared.ReadRefusal.{ReadRefusal}
 use Rattle.records.specs.declared.ReadRefusal.TheVariants.{CutShort, BadNumber, BadSide, LongList, BytesAfter, WrongMark, Plan}
@@ -72,17 +72,17 @@ limit-number BadBudget = omega arith
 limit-number BadWeight = omega arith
 limit-number NotLowest = omega arith
 
-unwritten_number : (why : PlanRefusal) → unwrittenNumber why ≤ 22
-unwritten_number (BadBoard fault) = omega (arith, fault-number fault)
-unwritten_number (Beyond limit) = omega (arith, limit-number limit)
-unwritten_number TooLong = omega arith
-unwritten_number (NoSuch i) = omega arith
-unwritten_number (Off i) = omega arith
-unwritten_number NotSolved = omega arith
-unwritten_number NoRoom = omega arith
+unwritten_number_lem : (why : PlanRefusal) → unwritten_number why ≤ 22
+unwritten_number_lem (BadBoard fault) = omega (arith, fault-number fault)
+unwritten_number_lem (Beyond limit) = omega (arith, limit-number limit)
+unwritten_number_lem TooLong = omega arith
+unwritten_number_lem (NoSuch i) = omega arith
+unwritten_number_lem (Off i) = omega arith
+unwritten_number_lem NotSolved = omega arith
+unwritten_number_lem NoRoom = omega arith
 
 -- and each refusal has a number
-pub unwritten_some : (why : PlanRefusal) → 1 ≤ unwrittenNumber why
+pub unwritten_some : (why : PlanRefusal) → 1 ≤ unwritten_number why
 unwritten_some (BadBoard fault) = fault-some fault
 unwritten_some (Beyond limit) = limit_some limit
 unwritten_some TooLong = omega arith
@@ -91,9 +91,9 @@ unwritten_some (Off i) = omega arith
 unwritten_some NotSolved = omega arith
 unwritten_some NoRoom = omega arith
 
-pub record_number : (a : Written) → writtenNumber a ≤ 22
+pub record_number : (a : Written) → written_number a ≤ 22
 record_number (Record length) = omega arith
-record_number (Unwritten why) = unwritten_number why
+record_number (Unwritten why) = unwritten_number_lem why
 
 pub record-detail : (a : Written) → record_detail a ≤ farthest
 record-detail (Record length) = omega arith
@@ -106,7 +106,7 @@ unread-number (BadSide i) = omega arith
 unread-number (LongList i) = omega arith
 unread-number (BytesAfter i) = omega arith
 unread-number WrongMark = omega arith
-unread-number (Plan why) = unwritten_number why
+unread-number (Plan why) = unwritten_number_lem why
 
 -- and each refusal has a number
 pub unread_some : (why : ReadRefusal) → 1 ≤ unread_number why

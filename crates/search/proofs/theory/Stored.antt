@@ -68,6 +68,6 @@ module _ (S : Space) (I : S.State → Type 0) (laws : Laws S I) (w : Weight) (ce
       record {
         legal = set-legal S s r m v below sound.legal;
         made = set-each r m v (λ k x. w.q * suc g ≤ x) below made sound.made;
-        good = λ isGood. set-each r m v (λ k x. Steps S last s k → Good S w ceiling (suc g) k (S.makes s k) x) below (good isGood)
-            (sound.good isGood);
+        good = λ is_good. set-each r m v (λ k x. Steps S last s k → Good S w ceiling (suc g) k (S.makes s k) x) below (good is_good)
+            (sound.good is_good);
       }

@@ -19,9 +19,9 @@ Ends Plan Value spent = Unit {0}
 pub ends-map : {Plan Plan' : List ℕ → ℕ → Type 0} {Value Value' : ℕ → ℕ → Type 0} (o : Outcome)
     → ((ms : List ℕ) (left : ℕ) → Plan ms left → Plan' ms left) → ((v left : ℕ) → Value v left → Value' v left)
     → Ends Plan Value o → Ends Plan' Value' o
-ends-map (found ms left) onPlan onValue h = onPlan ms left h
-ends-map (value v left) onPlan onValue h = onValue v left h
-ends-map spent onPlan onValue h = tt
+ends-map (found ms left) on_plan on_value h = on_plan ms left h
+ends-map (value v left) on_plan on_value h = on_value v left h
+ends-map spent on_plan on_value h = tt
 
 -- a visit ends at the goal, or does what comes after
 pub goal-ends : (Plan : List ℕ → ℕ → Type 0) (Value : ℕ → ℕ → Type 0) (t : Bool) (left : ℕ) (go_on : ℕ → Outcome)

@@ -19,13 +19,13 @@ use Rattle.board.proofs.theory.Sides.{cells-within}
 use Rattle.board.proofs.theory.Distances.{distance-at-most_90}
 use Rattle.board.proofs.theory.Digits.{at-digits}
 use Rattle.board.proofs.theory.Changes.{looked_up}
-use Rattle.board.proofs.distance.distance.Invariants.{sumFrom, lookedUp, Summed}
+use Rattle.board.proofs.distance.distance.Invariants.{sum_from, looked_up_in, Summed}
 use Rattle.board.proofs.distance.distance.Goals as goal
 
 -- f and the trays' distance agree at each cell: so do the sums
 as-distance : (s : Shape) (f : ℕ → ℕ → ℕ) (i : ℕ) (xs : List ℕ)
-    → ((k : ℕ) → k < length xs → f (i + k) (at xs k) ≡ tray_distance s (i + k) (at xs k)) → sumFrom f i xs ≡ distance_from s i xs
-unfolding sumFrom distance_from
+    → ((k : ℕ) → k < length xs → f (i + k) (at xs k) ≡ tray_distance s (i + k) (at xs k)) → sum_from f i xs ≡ distance_from s i xs
+unfolding sum_from distance_from
 as-distance s f i [] same = refl
 as-distance s f i (x ∷ xs) same =
     ap₂ ◌+◌
@@ -35,31 +35,31 @@ as-distance s f i (x ∷ xs) same =
     let up : suc i + k ≡ i + suc k = omega arith in
     ap (λ (j : ℕ). f j (at xs k)) up ∙ same (suc k) (omega arith) ∙ ap (λ (j : ℕ). tray_distance s j (at xs k)) (sym up)))
 
-total : (s : Shape) (b near : List ℕ) → GoodShape s → IsBoard s b → NearTable s near → sumFrom (lookedUp near) 0 b ≡ distance s b
+total : (s : Shape) (b near : List ℕ) → GoodShape s → IsBoard s b → NearTable s near → sum_from (looked_up_in near) 0 b ≡ distance s b
 unfolding distance
 total s b near good board table =
-    as-distance s (lookedUp near) 0 b
+    as-distance s (looked_up_in near) 0 b
     (λ k below.
     let inside : 0 + k < cells s = omega (arith, board.long) in
     looked_up s near (0 + k) (at b k) good table inside (board.small k (omega (arith, board.long))))
 
 one_more : (f : ℕ → ℕ → ℕ) (b : List ℕ) (n sum i k : ℕ) → Summed f b n sum i → i < n → n ≡ length b → k ≡ f i (at b i)
     → Summed f b n (sum + k) (i + 1)
-unfolding sumFrom
+unfolding sum_from
 one_more f b n sum i k done below long is =
     record {
       within = omega arith;
-      whole = rw add-one (omega (arith, done.whole, ap (sumFrom f i) (drop-cons b i 0 (omega arith))));
+      whole = rw add-one (omega (arith, done.whole, ap (sum_from f i) (drop-cons b i 0 (omega arith))));
     }
 
 -- with the next cell's part the sum is still at most the whole
-part : (f : ℕ → ℕ → ℕ) (b : List ℕ) (n sum i k : ℕ) → Summed f b n sum i → i < n → n ≡ length b → k ≡ f i (at b i) → sum + k ≤ sumFrom f 0 b
+part : (f : ℕ → ℕ → ℕ) (b : List ℕ) (n sum i k : ℕ) → Summed f b n sum i → i < n → n ≡ length b → k ≡ f i (at b i) → sum + k ≤ sum_from f 0 b
 part f b n sum i k done below long is = omega (arith, (one_more f b n sum i k done below long is).whole)
 
-all-summed : (f : ℕ → ℕ → ℕ) (b : List ℕ) (n sum i : ℕ) → Summed f b n sum i → n ≤ i → n ≡ length b → sum ≡ sumFrom f 0 b
-unfolding sumFrom
+all-summed : (f : ℕ → ℕ → ℕ) (b : List ℕ) (n sum i : ℕ) → Summed f b n sum i → n ≤ i → n ≡ length b → sum ≡ sum_from f 0 b
+unfolding sum_from
 all-summed f b n sum i done past long =
-    sym (add-zero sum) ∙ ap (λ (l : List ℕ). sum + sumFrom f i l) (sym (drop_of_length-le b {i = i} (omega arith))) ∙ done.whole
+    sym (add-zero sum) ∙ ap (λ (l : List ℕ). sum + sum_from f i l) (sym (drop_of_length-le b {i = i} (omega arith))) ∙ done.whole
 
 module _ (s : Shape) (p : Position) (n i v : ℕ) (holds : Holds s p) (count : n ≡ cells s) (below : i < n)
     (is : v ≡ digit p.cells i) where
@@ -77,9 +77,9 @@ module _ (s : Shape) (p : Position) (n : ℕ) (near : List ℕ) (holds : Holds s
   all-counted : n ≡ length (digits n p.cells)
   all-counted = count ∙ sym holds.board.long ∙ ap (λ (k : ℕ). length (digits k p.cells)) (sym count)
 
-  sum_is : sumFrom (lookedUp near) 0 (digits n p.cells) ≡ distance s (held s p)
+  sum_is : sum_from (looked_up_in near) 0 (digits n p.cells) ≡ distance s (held s p)
   sum_is =
-      ap (λ (k : ℕ). sumFrom (lookedUp near) 0 (digits k p.cells)) count
+      ap (λ (k : ℕ). sum_from (looked_up_in near) 0 (digits k p.cells)) count
       ∙ total s (held s p) near holds.shape holds.board table
 
 pub cell_count-n-requires : goal.cell_count-n-requires
@@ -116,9 +116,9 @@ overflow_add-sum c =
     omega (
       arith,
       sum_is _ _ _ _ pre.holds count pre.near_table,
-      part (lookedUp c.args.near.now) _ _ _ _ _ c.loop-i.invariant c.loop-i-test.true
+      part (looked_up_in c.args.near.now) _ _ _ _ _ c.loop-i.invariant c.loop-i-test.true
           (all-counted _ _ _ _ pre.holds count pre.near_table)
-          (c.number_of-sum.ensures ∙ ap (lookedUp c.args.near.now c.loop-i.i) read),
+          (c.number_of-sum.ensures ∙ ap (looked_up_in c.args.near.now c.loop-i.i) read),
       distance-at-most_90 _ _ pre.holds.shape pre.holds.board,
     )
 
@@ -127,9 +127,9 @@ loop-i-preserved c =
     let pre = c.requires in
     let count = c.cell_count-n.ensures in
     let read = in_board _ _ _ _ _ pre.holds count c.loop-i-test.true c.number_at.ensures in
-    one_more (lookedUp c.args.near.now) _ _ _ _ _ c.loop-i.invariant c.loop-i-test.true
+    one_more (looked_up_in c.args.near.now) _ _ _ _ _ c.loop-i.invariant c.loop-i-test.true
     (all-counted _ _ _ _ pre.holds count pre.near_table)
-    (c.number_of-sum.ensures ∙ ap (lookedUp c.args.near.now c.loop-i.i) read)
+    (c.number_of-sum.ensures ∙ ap (looked_up_in c.args.near.now c.loop-i.i) read)
 
 pub returns : goal.returns
 returns c =

@@ -7,21 +7,21 @@ use Rattle.board.specs.Digits.{digits}
 use Rattle.board.proofs.distance.distance.Given as goal
 
 -- what f gives for the cells i, i + 1, .., summed
-unfoldable pub sumFrom : (ℕ → ℕ → ℕ) → ℕ → List ℕ → ℕ
-sumFrom f i [] = 0
-sumFrom f i (v ∷ vs) = f i v + sumFrom f (suc i) vs
+unfoldable pub sum_from : (ℕ → ℕ → ℕ) → ℕ → List ℕ → ℕ
+sum_from f i [] = 0
+sum_from f i (v ∷ vs) = f i v + sum_from f (suc i) vs
 
-abbrev pub lookedUp : List ℕ → ℕ → ℕ → ℕ
-lookedUp near i v = get_or near (64 * i + v) 0
+abbrev pub looked_up_in : List ℕ → ℕ → ℕ → ℕ
+looked_up_in near i v = get_or near (64 * i + v) 0
 
 -- the cells below i have been summed
 pub record Summed (f : ℕ → ℕ → ℕ) (b : List ℕ) (n sum i : ℕ) : Type 0 where
   pub within : i ≤ n
-  pub whole : sum + sumFrom f i (drop i b) ≡ sumFrom f 0 b
+  pub whole : sum + sum_from f i (drop i b) ≡ sum_from f 0 b
 
 abbrev pub invariant-loop-i : goal.invariant-loop-i
 invariant-loop-i l =
-    Summed (lookedUp l.near) (digits l.n l.p.cells) l.n l.sum l.i
+    Summed (looked_up_in l.near) (digits l.n l.p.cells) l.n l.sum l.i
 
 abbrev pub decreases-loop-i : goal.decreases-loop-i
 decreases-loop-i l =

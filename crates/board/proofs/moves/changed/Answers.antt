@@ -11,27 +11,27 @@ use Rattle.board.proofs.theory.Changes.{read_back, one_less, less_means}
 use Rattle.board.proofs.moves.changed.Goals as goal
 
 -- the code's test, of a signed byte
-abbrev isBelow0 : ℤ → Bool
-isBelow0 z = lt_z (read_back z) (pos 0)
+abbrev is_below_0 : ℤ → Bool
+is_below_0 z = lt_z (read_back z) (pos 0)
 
-some_left : (h : ℕ) (z : ℤ) → LeadsOn h z → isBelow0 z ≡ true → 1 ≤ h
+some_left : (h : ℕ) (z : ℤ) → LeadsOn h z → is_below_0 z ≡ true → 1 ≤ h
 some_left h z way below = go way.one_step way.sum below
   where
-    go : {y : ℤ} → OneStep y → pos way.to ≡ pos h +ℤ y → isBelow0 y ≡ true → 1 ≤ h
+    go : {y : ℤ} → OneStep y → pos way.to ≡ pos h +ℤ y → is_below_0 y ≡ true → 1 ≤ h
     go nearer e t = omega (arith, less_means way.to h e)
     go farther e t = absurd (false≢true t)
 
-less : (h : ℕ) (z : ℤ) → LeadsOn h z → isBelow0 z ≡ true → pos (h - 1) ≡ pos h +ℤ z
+less : (h : ℕ) (z : ℤ) → LeadsOn h z → is_below_0 z ≡ true → pos (h - 1) ≡ pos h +ℤ z
 less h z way below = go way.one_step (some_left h z way below) below
   where
-    go : {y : ℤ} → OneStep y → 1 ≤ h → isBelow0 y ≡ true → pos (h - 1) ≡ pos h +ℤ y
+    go : {y : ℤ} → OneStep y → 1 ≤ h → is_below_0 y ≡ true → pos (h - 1) ≡ pos h +ℤ y
     go nearer some t = one_less (h - 1) h (omega arith)
     go farther some t = absurd (false≢true t)
 
-more : (h : ℕ) (z : ℤ) → LeadsOn h z → isBelow0 z ≡ false → pos (h + 1) ≡ pos h +ℤ z
+more : (h : ℕ) (z : ℤ) → LeadsOn h z → is_below_0 z ≡ false → pos (h + 1) ≡ pos h +ℤ z
 more h z way above = go way.one_step above
   where
-    go : {y : ℤ} → OneStep y → isBelow0 y ≡ false → pos (h + 1) ≡ pos h +ℤ y
+    go : {y : ℤ} → OneStep y → is_below_0 y ≡ false → pos (h + 1) ≡ pos h +ℤ y
     go nearer t = absurd (false≢true (sym t))
     go farther t = ap pos (omega arith)
 

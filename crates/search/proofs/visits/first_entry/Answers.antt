@@ -1,4 +1,4 @@
--- `search::visits::first_entry_lem` meets its contract: a way that leads nowhere is no successor's, and the change along another tells whether
+-- `search::visits::first_entry` meets its contract: a way that leads nowhere is no successor's, and the change along another tells whether
 -- the move's board is one step nearer or one farther. Assumes nothing.
 use Prim.Native.Nat.{ℕ, suc, ◌+◌, ◌<◌}
 use mathlib.Core.Path.{◌≡◌, sym, ap, ap₂, ◌∙◌, subst}
