@@ -2,7 +2,8 @@
 -- Then the table that the cells are looked up in: the 256 distances between pairs of cells of a grid four wide; a smaller cabinet uses the
 -- cells with the same row and column. Last a shape's own table: for each cell what each tray adds there, and the ways from it.
 -- Assumes nothing.
-use Rattle.std.specs.Prelude.{ℕ, zero, suc, ◌+◌, ◌-◌, ◌*◌, ◌/◌, ◌%◌, ◌≤◌, ◌<◌, ◌≡◌, cond, not, ◌&&◌, List, [], ◌∷◌, ltb, eqb, length, get_or}
+use Rattle.std.specs.Prelude.{ℕ, zero, suc, ◌+◌, ◌-◌, ◌*◌, ◌/◌, ◌%◌, ◌≤◌, ◌<◌, ◌≡◌}
+use Rattle.std.specs.Prelude.{cond, not, ◌&&◌, List, [], ◌∷◌, ltb, eqb, length, get_or}
 use Rattle.board.specs.declared.Shape.{Shape}
 use Rattle.board.specs.Shape.{cells, row, column}
 use Rattle.board.specs.Moves.{stays_on, leads_to}

@@ -1,8 +1,7 @@
 // The distance of a held board, and the shape's own table, by the table of distances between pairs of cells of a grid four wide.
 ghost use Rattle.std.specs.Prelude.{◌≡◌, ◌<◌, ◌+◌, ◌*◌, length};
 ghost use Rattle.board.specs.Shape.{cells, GoodShape};
-ghost use Rattle.board.specs.Distance.{tray_distance, DistanceTable, four_wide, way_at, NearTable, RunPut};
-ghost use Rattle.board.specs.Distance.{distance};
+ghost use Rattle.board.specs.Distance.{tray_distance, DistanceTable, four_wide, way_at, NearTable, RunPut, distance};
 ghost use Rattle.board.specs.Held.{held, Holds};
 
 use crate::held::{cell_count, number_at};

@@ -1,10 +1,8 @@
 // When a move is legal, where it leads, the position after it, and how it changes the distance.
 ghost use Rattle.std.specs.Prelude.{◌≡◌, true, ◌≤◌, ◌<◌, ◌*◌, ◌%◌, pos, ◌+ℤ◌};
 ghost use Rattle.board.specs.Shape.{cells, Side, GoodShape};
-ghost use Rattle.board.specs.Moves.{stays_on, leads_to};
-ghost use Rattle.board.specs.Moves.{legal};
-ghost use Rattle.board.specs.Distance.{NearTable};
-ghost use Rattle.board.specs.Distance.{way};
+ghost use Rattle.board.specs.Moves.{stays_on, leads_to, legal};
+ghost use Rattle.board.specs.Distance.{NearTable, way};
 ghost use Rattle.board.specs.Held.{held, Holds, Slides, Slid};
 ghost use Rattle.board.specs.Change.{change_of, change_to, MovedBy, LeadsOn};
 
@@ -22,7 +20,7 @@ pub fn legal(shape: Shape, p: Position, m: usize) -> bool
 // The position after a legal move, and the change of its distance.
 pub fn after(shape: Shape, p: Position, m: usize, near: &[u8; 1024]) -> Moved
     requires holds { Holds shape p }
-    requires m_value { legal shape (held shape p) m ≡ true }
+    requires legal_move { legal shape (held shape p) m ≡ true }
     requires near_table { NearTable shape near.now }
     ensures { MovedBy shape (held shape p) m result }
 {
@@ -148,7 +146,7 @@ fn column_of(e: usize, width: usize) -> usize
 fn leads_to(shape: Shape, e: usize, m: usize) -> usize
     requires good_shape { GoodShape shape }
     requires e_bound { e < cells shape }
-    requires m_value { stays_on shape e m ≡ true }
+    requires on_the_grid { stays_on shape e m ≡ true }
     ensures { result ≡ leads_to shape e m }
 {
     if m == 0 {

@@ -1,6 +1,7 @@
 -- Reading the text of a job from the left: what the reader finds at each place. `read_job` is the whole; that it reads exactly the
 -- lines of `Grammar` is proved in proofs/. Assumes nothing.
-use Rattle.std.specs.Prelude.{ℕ, zero, suc, ◌+◌, ◌≤◌, Bool, true, false, cond, ◌&&◌, List, [], ◌∷◌, leb, eqb, length, get_or, take, drop, ℤ, pos, neg_ℤ}
+use Rattle.std.specs.Prelude.{ℕ, zero, suc, ◌+◌, ◌≤◌}
+use Rattle.std.specs.Prelude.{Bool, true, false, cond, ◌&&◌, List, [], ◌∷◌, leb, eqb, length, get_or, take, drop, ℤ, pos, neg_ℤ}
 use Rattle.std.proofs.Math.Option.{Option, none, some}
 use Rattle.std.proofs.Math.Seq.{slice}
 use Rattle.jobline.specs.Numeral.{space, line_feed, minus_sign, Digits, value_of}

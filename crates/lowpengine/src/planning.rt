@@ -2,8 +2,7 @@
 // numbers as the caller's bytes give; afterwards the caller's bytes are cleared where the search's numbers stand.
 ghost use Rattle.std.specs.Prelude.{◌≡◌, ◌/◌, min, length, replicate};
 ghost use Rattle.planner.specs.Limits.{ceiling_of};
-ghost use Rattle.planner.specs.Answer.{called};
-ghost use Rattle.planner.specs.Answer.{number, cell, plan_length};
+ghost use Rattle.planner.specs.Answer.{called, number, cell, plan_length};
 ghost use Rattle.lowpengine.specs.Bytes.{numbers_used};
 ghost use Rattle.lowpengine.specs.Packed.{Apart, packed, packed_plan};
 ghost use Rattle.lowpengine.specs.Given.{PlanGiven};

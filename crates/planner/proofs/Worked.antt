@@ -98,10 +98,10 @@ rows =
 
 pub worked : map seen rows ≡ map expected rows
 unfolding seen expected plans refuses rows first_of first_refusal under empty_cell is_goal stays_on leads_to legal slide after tray_distance
-    distance_from distance lower inversions parity_sum is_odd first_too_large first_holding repeats first_repeat fault_tests better best_of best
-    masked second may_go_on goes_on handed_down first_stored above_ceiling static taken_up turn work unless_goal is_successor first_entry first_row
-    visit search bad_ceiling ceiling_of bad_budget bad_weight divides_both shares_divisor limit_tests short_buffer last_tests tests searched
-    concluded after_tests answered
+    distance_from distance lower inversions parity_sum is_odd first_too_large first_holding repeats first_repeat fault_tests better
+    best_of best masked second may_go_on goes_on handed_down first_stored above_ceiling static taken_up turn work unless_goal
+    is_successor first_entry first_row visit search bad_ceiling ceiling_of bad_budget bad_weight divides_both shares_divisor
+    limit_tests short_buffer last_tests tests searched concluded after_tests answered
 worked = refl
 
 -- the short call: twelve moves where a shortest list has ten, in 18 visits; at 1 over 1 these would be 20
@@ -124,8 +124,8 @@ short_row =
 
 pub short-worked : seen_short short_row ≡ expected short_row
 unfolding seen_short expected short_row first_of first_refusal under empty_cell is_goal stays_on leads_to legal slide after tray_distance
-    distance_from distance lower inversions parity_sum is_odd first_too_large first_holding repeats first_repeat fault_tests better best_of best
-    masked second may_go_on goes_on handed_down first_stored above_ceiling static taken_up turn work unless_goal is_successor first_entry first_row
-    visit search bad_ceiling ceiling_of bad_budget bad_weight divides_both shares_divisor limit_tests short_buffer last_tests tests searched
-    concluded after_tests answered
+    distance_from distance lower inversions parity_sum is_odd first_too_large first_holding repeats first_repeat fault_tests better
+    best_of best masked second may_go_on goes_on handed_down first_stored above_ceiling static taken_up turn work unless_goal
+    is_successor first_entry first_row visit search bad_ceiling ceiling_of bad_budget bad_weight divides_both shares_divisor
+    limit_tests short_buffer last_tests tests searched concluded after_tests answered
 short-worked = refl

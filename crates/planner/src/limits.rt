@@ -1,7 +1,6 @@
 // Tests 5 to 7 and 15: a ceiling, a budget and a weight as they were given, any numbers. Every caller's tests 5 to 7 and 15 are these.
 ghost use Rattle.std.specs.Prelude.{◌<◌, ◌≡◌, false};
-ghost use Rattle.planner.specs.Limits.{bad_ceiling, ceiling_of, bad_budget, bad_weight, limit_number};
-ghost use Rattle.planner.specs.Limits.{divides_both, shares_divisor};
+ghost use Rattle.planner.specs.Limits.{bad_ceiling, ceiling_of, bad_budget, bad_weight, limit_number, divides_both, shares_divisor};
 ghost use Rattle.planner.specs.Limits.{measured};
 
 use crate::{Limit, Measured, Terms};

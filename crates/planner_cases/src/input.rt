@@ -1,5 +1,5 @@
 // The numbers on standard input, one after the other: each is its digits, and the byte behind them is passed over.
-ghost use Rattle.std.specs.Prelude.{◌≤◌, IfOk};
+ghost use Rattle.std.specs.Prelude.{◌≡◌, ◌≤◌, length, IfOk};
 
 use std::io;
 use std::io::Read;
@@ -23,7 +23,9 @@ pub fn next_number(input: &mut impl Read) -> io::Result<u32>
 }
 
 // As many of the next numbers as the buffer holds.
-pub fn read_cells(input: &mut impl Read, cells: &mut [u8]) -> io::Result<()> {
+pub fn read_cells(input: &mut impl Read, cells: &mut [u8]) -> io::Result<()>
+    ensures { length cells.new ≡ length cells.old }
+{
     for cell in cells {
         *cell = next_cell(input)?;
     }

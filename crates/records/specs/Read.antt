@@ -1,6 +1,7 @@
 -- Reading a record: its numbers in their order, each fault as it is met; then the tests behind them, the end and the mark and the tests
 -- of E1 over the fields as they were read; the answer and the output afterwards. Assumes nothing.
-use Rattle.std.specs.Prelude.{ℕ, ◌+◌, ◌*◌, ◌/◌, ◌%◌, ◌≤◌, ◌≡◌, Bool, not, cond, ◌&&◌, List, [], ◌∷◌, ◌++◌, ltb, eqb, pos, length, get_or, take, drop}
+use Rattle.std.specs.Prelude.{ℕ, ◌+◌, ◌*◌, ◌/◌, ◌%◌, ◌≤◌, ◌≡◌}
+use Rattle.std.specs.Prelude.{Bool, not, cond, ◌&&◌, List, [], ◌∷◌, ◌++◌, ltb, eqb, pos, length, get_or, take, drop}
 use Rattle.std.proofs.Math.Option.{Option, none, some}
 use Rattle.board.specs.Shape.{Side}
 use Rattle.board.specs.Tests.{Test, test, first_refusal, under}

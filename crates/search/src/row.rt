@@ -1,7 +1,6 @@
 // The decisions over a row of four stored values, each as its definition in specs/Row.antt says.
 ghost use Rattle.std.specs.Prelude.{◌≡◌, not, [], ◌∷◌, ◌≤◌, ◌+◌, min};
-ghost use Rattle.search.specs.Row.{best_of, may_go_on, first_stored, above_ceiling};
-ghost use Rattle.search.specs.Row.{better};
+ghost use Rattle.search.specs.Row.{best_of, may_go_on, first_stored, above_ceiling, better};
 ghost use Rattle.search.specs.Run.{Picks};
 
 use crate::{Choice, Pick};

@@ -73,7 +73,7 @@ fn work(
     requires g_lt_ceiling { g < job.ceiling }
     requires near_table { NearTable job.shape near.now }
     requires room { Room job table.old moves.old }
-    requires fact { Open job (held job.shape p) (row_at table.old g) }
+    requires is_open { Open job (held job.shape p) (row_at table.old g) }
     ensures { Ran g (worked job (held job.shape p) g bound (row_at table.old g) left)
         table.old moves.old (answer_of result) table.new moves.new }
 {

@@ -14,7 +14,8 @@ use borrow.Author.Tests.{le-leb, eq-eqb, ne_eqb}
 use Rattle.jobline.specs.Numeral.{space, line_feed, minus_sign, Numeral, value_of}
 use Rattle.jobline.specs.Grammar.{Job, after, Signed, plain, minus, Smalls, Spells}
 use Rattle.jobline.specs.Grammar.{none as no_cells, more as one_more}
-use Rattle.jobline.specs.Scan.{byte_at, run, number_at, minus_at, field_at, signed_value, nines, head_of, ends_at, prepend, cells_at, read_job}
+use Rattle.jobline.specs.Scan.{byte_at, run, number_at, minus_at, field_at, signed_value, nines, head_of}
+use Rattle.jobline.specs.Scan.{ends_at, prepend, cells_at, read_job}
 use Rattle.jobline.specs.declared.read.NumberRead.{NumberRead}
 use Rattle.jobline.specs.declared.read.NumberRead.TheVariants.{Number}
 use Rattle.jobline.specs.declared.read.Numbers.{Numbers}

@@ -194,7 +194,8 @@ cells-sound (suc k) text at = go (ends_at text at) refl (λ next. cells-sound k 
         }
 
     go : (t : Bool) → ends_at text at ≡ t → ((next : ℕ) → ClosedBy k text next (cells_at k text next))
-        → ClosedBy (suc k) text at (cond t (some []) (behind none (field_at false 255 text at) λ v _ next. prepend v (cells_at k text next)))
+        → ClosedBy (suc k) text at
+        (cond t (some []) (behind none (field_at false 255 text at) λ v _ next. prepend v (cells_at k text next)))
     go true e ih = ended (suc k) text at e
     go false e ih =
         onward (ClosedBy (suc k) text at) none (field_at false 255 text at) _ tt

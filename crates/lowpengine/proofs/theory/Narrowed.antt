@@ -20,7 +20,8 @@ use Rattle.records.specs.declared.ReadRefusal.{ReadRefusal}
 use Rattle.records.specs.declared.ReadRefusal.TheVariants.{Plan}
 use Rattle.records.specs.declared.ReadAnswer.TheVariants.{Fields}
 use Rattle.records.specs.Write.{fields_of, list_tests, plan_tests}
-use Rattle.records.specs.Read.{Begun, begun, halted, given_of, no_room, reading_tests, end_tests, moves_at, leaves_read, begun_read, numbers_in}
+use Rattle.records.specs.Read.{Begun, begun, halted, given_of, no_room, reading_tests, end_tests, moves_at, leaves_read, begun_read}
+use Rattle.records.specs.Read.{numbers_in}
 use Rattle.records.specs.Read.{read_back}
 use Rattle.lowpengine.specs.Packed.{Narrow, NarrowIn}
 

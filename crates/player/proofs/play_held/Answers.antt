@@ -62,10 +62,6 @@ module _
       refused : (end : List ℕ) → comes_to s end moves ran.bad ≡ Refused (bad_move (get_or moves ran.bad 0) ran.bad)
       refused end = rw (lt-ltb ran.bad (length moves) inside)
 
-pub come_to-requires : goal.come_to-requires
-come_to-requires c =
-    c.run-ran.ensures.kept
-
 pub returns : goal.returns
 returns c =
     let runs = c.run-ran.ensures in

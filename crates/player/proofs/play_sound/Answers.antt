@@ -24,10 +24,6 @@ pub play_held-requires-clause-kept : goal.play_held-requires-clause-kept
 play_held-requires-clause-kept c =
     record { holds = c.hold-start.ensures.holds; full = c.distance-h.ensures }
 
-pub play_held-requires-clause-near_table : goal.play_held-requires-clause-near_table
-play_held-requires-clause-near_table c =
-    c.near_table-near.ensures
-
 pub play_held-requires-clause-shape_in_bounds : goal.play_held-requires-clause-shape_in_bounds
 play_held-requires-clause-shape_in_bounds c =
     rw (← c.cell_count.ensures) c.if-out-cell_count.false

@@ -57,6 +57,6 @@ rows =
     ∷ []
 
 pub worked : map (λ r. answer_for r.width r.height r.board r.moves r.room) rows ≡ map (λ r. r.expected) rows
-unfolding answer_after answer_on comes_to first_bad bad_move tested said_of fault_tests first_refusal first_too_large first_holding repeats first_repeat
-    first_of empty_cell is_goal stays_on leads_to legal slide after
+unfolding answer_after answer_on comes_to first_bad bad_move tested said_of fault_tests first_refusal first_too_large first_holding
+    repeats first_repeat first_of empty_cell is_goal stays_on leads_to legal slide after
 worked = refl

@@ -61,7 +61,8 @@ why_of (Refused why) = some why
 -- ---- test 8 is the last
 
 module _ (g : Given) where
-  list_any : {why : PlanRefusal} (s : Bool) → FirstToHold (list_tests (fields_of g) false) why → FirstToHold (list_tests (fields_of g) s) why
+  list_any : {why : PlanRefusal} (s : Bool) → FirstToHold (list_tests (fields_of g) false) why
+      → FirstToHold (list_tests (fields_of g) s) why
   unfolding list_tests
   list_any s (here a) = here a
   list_any s (later a (here b)) = later a (here b)
@@ -244,7 +245,8 @@ clamped-same n cells moves found read = go (ltb (first_too_large size cells) siz
     as_bytes : CellsRead n.width n.height (map clamped cells)
     as_bytes = record { wide = read.wide; high = read.high; long = length-map cells clamped ∙ read.long }
 
-    go : (t : Bool) → ltb (first_too_large size cells) size ≡ t → plan_read n cells moves found ≡ plan_read n (map clamped cells) moves found
+    go : (t : Bool) → ltb (first_too_large size cells) size ≡ t
+        → plan_read n cells moves found ≡ plan_read n (map clamped cells) moves found
     go true h =
         let inside = ltb-true (first_too_large size cells) size h in
         refused_large n cells moves found read _ refl inside

@@ -81,7 +81,8 @@ groups-inside : (k : ℕ) (bytes : List ℕ) (first v at w next : ℕ) → group
 unfolding groups_at
 groups-inside zero bytes first v at w next e = let z : ◌≡◌ {A = ℕ} 0 1 = cc in absurd (omega arith)
 groups-inside (suc k) bytes first v at w next e =
-    go (leb (length bytes) at) refl (ltb (get_or bytes at 0) 128) e (groups-inside k bytes first (worth_next bytes first v at) (at + 1) w next)
+    go (leb (length bytes) at) refl (ltb (get_or bytes at 0) 128) e
+    (groups-inside k bytes first (worth_next bytes first v at) (at + 1) w next)
   where
     go : (t : Bool) → leb (length bytes) at ≡ t → (u : Bool)
         → cond t (Faulty (CutShort (length bytes)))
@@ -103,7 +104,8 @@ number-inside bytes at w next e = go (eqb (get_or bytes at 0) 128) e
     go false f = groups-inside 5 bytes at 0 at w next f
 
 -- a number whose first byte is not 128 is what its groups are
-pub number_by : (bytes : List ℕ) (at : ℕ) (r : Scanned) → (get_or bytes at 0 ≡ 128 → ⊥) → r ≡ groups_at 5 bytes at 0 at → r ≡ number_at bytes at
+pub number_by : (bytes : List ℕ) (at : ℕ) (r : Scanned) → (get_or bytes at 0 ≡ 128 → ⊥) → r ≡ groups_at 5 bytes at 0 at
+    → r ≡ number_at bytes at
 unfolding number_at
 number_by bytes at r other e = rw (ne_eqb (get_or bytes at 0) 128 other) e
 

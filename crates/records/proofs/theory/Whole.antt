@@ -226,7 +226,8 @@ pub marks_there : (b : List ℕ) (m : ℕ) → mark_stands m (b ++ mark_bytes m)
 unfolding mark_stands
 marks_there b m =
     let zero' : length b ≡ length b + 0 = omega arith in
-    let at : (i : ℕ) → get_or (b ++ mark_bytes m) (length b + i) 0 ≡ get_or (mark_bytes m) i 0 = λ i. get_or-append-add b (mark_bytes m) i 0 in
+    let at : (i : ℕ) → get_or (b ++ mark_bytes m) (length b + i) 0 ≡ get_or (mark_bytes m) i 0 =
+    λ i. get_or-append-add b (mark_bytes m) i 0 in
     rw (
       eq-eqb _ _ (ap (λ (i : ℕ). get_or (b ++ mark_bytes m) i 0) zero' ∙ at 0),
       eq-eqb _ _ (at 1),

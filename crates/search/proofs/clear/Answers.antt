@@ -36,10 +36,6 @@ pub loop-i-preserved : goal.loop-i-preserved
 loop-i-preserved c =
     one_more _ _ _ c.loop-i.invariant c.loop-i-test.true
 
-pub shape_of-table : goal.shape_of-table
-shape_of-table c =
-    c.loop-i.invariant.long
-
 pub returns : goal.returns
 returns c =
     finished _ _ _ c.loop-i.invariant c.loop-i-test.false

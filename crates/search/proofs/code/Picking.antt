@@ -56,7 +56,8 @@ module _ (a b c d : ℕ) where
   row = a ∷ b ∷ c ∷ d ∷ []
 
   -- where the best move is known, so is the second least
-  known : (m v : ℕ) → best_of a b c d ≡ choice m v → (s : ℕ) → s ≡ (best_of (masked m 0 a) (masked m 1 b) (masked m 2 c) (masked m 3 d)).value
+  known : (m v : ℕ) → best_of a b c d ≡ choice m v → (s : ℕ)
+      → s ≡ (best_of (masked m 0 a) (masked m 1 b) (masked m 2 c) (masked m 3 d)).value
       → Picks row (record { step = m; second = s })
   unfolding best second
   known m v e s f =

@@ -7,7 +7,8 @@ use native.Mathlib.Nat.{add-zero, zero-add, suc-add}
 use native.Mathlib.Numerals.{add-one, add-two, add-three}
 use native.Mathlib.Omega.{arith}
 use lib.ListN.{length, get_or, take, drop, set}
-use lib.Seq.{get_or-take, get_or-drop, take-take, take-nil, take_at, drop_at, length-take-le, take-set-le, take-set-lt, drop-set-add, sets-eq}
+use lib.Seq.{get_or-take, get_or-drop, take-take, take-nil, take_at, drop_at, length-take-le}
+use lib.Seq.{take-set-le, take-set-lt, drop-set-add, sets-eq}
 use Rattle.search.specs.declared.Job.{Job}
 use Rattle.search.specs.Row.{infinity, entry}
 use Rattle.search.specs.Run.{Room, row_at, put_row}

@@ -18,26 +18,14 @@ use Rattle.search.proofs.from_start.Goals as goal
 kept : (s : Shape) (p : Position) (h : ℕ) → Holds s p → h ≡ distance s (held s p) → Kept s p h
 kept s p h holds is = record { holds = holds; full = is }
 
-pub static_value-f-requires-clause-small_job : goal.static_value-f-requires-clause-small_job
-static_value-f-requires-clause-small_job c =
-    c.requires.small_job.0
-
 pub static_value-f-requires-clause-h_bound : goal.static_value-f-requires-clause-h_bound
 static_value-f-requires-clause-h_bound c =
     (omega (arith, kept-most _ _ _ (kept _ _ _ c.requires.small_job.1 c.distance-h.ensures)), omega arith)
-
-pub visit-back-requires-clause-small_job : goal.visit-back-requires-clause-small_job
-visit-back-requires-clause-small_job c =
-    c.requires.small_job.0
 
 pub visit-back-requires-clause-kept : goal.visit-back-requires-clause-kept
 visit-back-requires-clause-kept c =
     let first = kept _ _ _ c.requires.small_job.1 c.distance-h.ensures in
     first
-
-pub visit-back-requires-clause-near_table : goal.visit-back-requires-clause-near_table
-visit-back-requires-clause-near_table c =
-    c.near_table-near.ensures
 
 pub visit-back-requires-clause-room : goal.visit-back-requires-clause-room
 visit-back-requires-clause-room c =

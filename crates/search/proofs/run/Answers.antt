@@ -8,10 +8,6 @@ pub slice_bounds-from_start-end-2 : goal.slice_bounds-from_start-end-2
 slice_bounds-from_start-end-2 c =
     sym (length-take-le _ _ c.requires.room.rows)
 
-pub from_start-out-requires-clause-small_job : goal.from_start-out-requires-clause-small_job
-from_start-out-requires-clause-small_job c =
-    c.requires.small_job
-
 pub from_start-out-requires-clause-room : goal.from_start-out-requires-clause-room
 from_start-out-requires-clause-room c =
     part_room _ _ _ _ refl c.requires.room

@@ -53,7 +53,8 @@ one_more f b n sum i k done below long is =
     }
 
 -- with the next cell's part the sum is still at most the whole
-part : (f : ℕ → ℕ → ℕ) (b : List ℕ) (n sum i k : ℕ) → Summed f b n sum i → i < n → n ≡ length b → k ≡ f i (at b i) → sum + k ≤ sum_from f 0 b
+part : (f : ℕ → ℕ → ℕ) (b : List ℕ) (n sum i k : ℕ) → Summed f b n sum i → i < n → n ≡ length b → k ≡ f i (at b i)
+    → sum + k ≤ sum_from f 0 b
 part f b n sum i k done below long is = omega (arith, (one_more f b n sum i k done below long is).whole)
 
 all-summed : (f : ℕ → ℕ → ℕ) (b : List ℕ) (n sum i : ℕ) → Summed f b n sum i → n ≤ i → n ≡ length b → sum ≡ sum_from f 0 b
@@ -81,10 +82,6 @@ module _ (s : Shape) (p : Position) (n : ℕ) (near : List ℕ) (holds : Holds s
   sum_is =
       ap (λ (k : ℕ). sum_from (looked_up_in near) 0 (digits k p.cells)) count
       ∙ total s (held s p) near holds.shape holds.board table
-
-pub cell_count-n-requires : goal.cell_count-n-requires
-cell_count-n-requires c =
-    c.requires.holds.shape
 
 pub loop-i-init : goal.loop-i-init
 loop-i-init c =

@@ -4,37 +4,9 @@ use native.Mathlib.Omega.{arith}
 use Rattle.board.proofs.code.Filling.{none_filled, one_filled, all_filled}
 use Rattle.board.proofs.distance.near_table.Goals as goal
 
-pub cell_count-n-requires : goal.cell_count-n-requires
-cell_count-n-requires c =
-    c.requires
-
 pub loop-e-init : goal.loop-e-init
 loop-e-init c =
     none_filled _
-
-pub put_near-requires-clause-good_shape : goal.put_near-requires-clause-good_shape
-put_near-requires-clause-good_shape c =
-    c.requires
-
-pub put_near-requires-clause-e_bound : goal.put_near-requires-clause-e_bound
-put_near-requires-clause-e_bound c =
-    omega (arith, c.loop-e-test.true, c.cell_count-n.ensures)
-
-pub put_near-requires-clause-distance_table : goal.put_near-requires-clause-distance_table
-put_near-requires-clause-distance_table c =
-    c.distances-table.ensures
-
-pub put_near-requires-clause-near_len : goal.put_near-requires-clause-near_len
-put_near-requires-clause-near_len c =
-    c.loop-e.invariant.long
-
-pub put_ways-requires-clause-good_shape : goal.put_ways-requires-clause-good_shape
-put_ways-requires-clause-good_shape c =
-    c.requires
-
-pub put_ways-requires-clause-e_bound : goal.put_ways-requires-clause-e_bound
-put_ways-requires-clause-e_bound c =
-    omega (arith, c.loop-e-test.true, c.cell_count-n.ensures)
 
 pub put_ways-requires-clause-near_len : goal.put_ways-requires-clause-near_len
 put_ways-requires-clause-near_len c =

@@ -4,28 +4,9 @@ use Rattle.board.proofs.theory.Sides.{cells-within}
 use Rattle.board.proofs.code.Filling.{none-put, one-put, all-put}
 use Rattle.board.proofs.distance.put_near.Goals as goal
 
-pub cell_count-n-requires : goal.cell_count-n-requires
-cell_count-n-requires c =
-    c.requires.good_shape
-
 pub loop-v-init : goal.loop-v-init
 loop-v-init c =
     (omega arith, none-put _ _ _)
-
-pub near_entry-requires-clause-good_shape : goal.near_entry-requires-clause-good_shape
-near_entry-requires-clause-good_shape c =
-    let pre = c.requires in
-    pre.good_shape
-
-pub near_entry-requires-clause-i_bound : goal.near_entry-requires-clause-i_bound
-near_entry-requires-clause-i_bound c =
-    let pre = c.requires in
-    (pre.e_bound, omega (arith, c.loop-v-test.true, c.cell_count-n.ensures))
-
-pub near_entry-requires-clause-distance_table : goal.near_entry-requires-clause-distance_table
-near_entry-requires-clause-distance_table c =
-    let pre = c.requires in
-    pre.distance_table
 
 pub overflow_mul-near : goal.overflow_mul-near
 overflow_mul-near c =

@@ -10,20 +10,6 @@ pub loop-k-init : goal.loop-k-init
 loop-k-init c =
     (omega arith, none-put _ _ _)
 
-pub way_entry-requires-clause-good_shape : goal.way_entry-requires-clause-good_shape
-way_entry-requires-clause-good_shape c =
-    let pre = c.requires in
-    pre.good_shape
-
-pub way_entry-requires-clause-e_bound : goal.way_entry-requires-clause-e_bound
-way_entry-requires-clause-e_bound c =
-    let pre = c.requires in
-    pre.e_bound
-
-pub way_entry-requires-clause-last_bound : goal.way_entry-requires-clause-last_bound
-way_entry-requires-clause-last_bound c =
-    (omega (arith, c.loop-k-test.true), omega arith)
-
 -- a way is a cell, and so a byte
 pub overflow_cast-near : goal.overflow_cast-near
 overflow_cast-near c =

@@ -21,7 +21,3 @@ tested_cells-requires c =
       wide = passing_side _ (sym c.bad_side.ensures ∙ c.if-bad_side.false);
       high = passing_side _ (sym c.bad_side-2.ensures ∙ c.if-bad_side-2.false);
     }
-
-pub returns : goal.returns
-returns c =
-    c.tested_cells.ensures

@@ -21,11 +21,6 @@ leads : (s : Shape) (p : Position) (holds : Holds s p) (m t : ℕ) → legal s (
     → t ≡ leads_to s p.empty m
 leads s p holds m t allowed is = is ∙ way_on s p.empty 4 m (stays s p holds m allowed) (ne_eqb (4 + m) 3 (λ e. omega arith))
 
-pub way-t-requires-clause-good_shape : goal.way-t-requires-clause-good_shape
-way-t-requires-clause-good_shape c =
-    let pre = c.requires in
-    pre.holds.shape
-
 pub way-t-requires-clause-e_bound : goal.way-t-requires-clause-e_bound
 way-t-requires-clause-e_bound c =
     let pre = c.requires in
@@ -34,39 +29,24 @@ way-t-requires-clause-e_bound c =
 pub way-t-requires-clause-last_bound : goal.way-t-requires-clause-last_bound
 way-t-requires-clause-last_bound c =
     let pre = c.requires in
-    let number = legal-number _ _ _ pre.holds.shape pre.holds.board (passes pre.m_value) in
+    let number = legal-number _ _ _ pre.holds.shape pre.holds.board (passes pre.legal_move) in
     (omega arith, number)
-
-pub way-t-requires-clause-near_table : goal.way-t-requires-clause-near_table
-way-t-requires-clause-near_table c =
-    let pre = c.requires in
-    pre.near_table
-
-pub change_to-change-requires-clause-holds : goal.change_to-change-requires-clause-holds
-change_to-change-requires-clause-holds c =
-    let pre = c.requires in
-    pre.holds
 
 pub change_to-change-requires-clause-t_bound : goal.change_to-change-requires-clause-t_bound
 change_to-change-requires-clause-t_bound c =
     let pre = c.requires in
-    let led = leads _ _ pre.holds _ _ pre.m_value c.way-t.ensures in
-    target_below _ _ pre.holds _ _ pre.m_value led
-
-pub change_to-change-requires-clause-near_table : goal.change_to-change-requires-clause-near_table
-change_to-change-requires-clause-near_table c =
-    let pre = c.requires in
-    pre.near_table
+    let led = leads _ _ pre.holds _ _ pre.legal_move c.way-t.ensures in
+    target_below _ _ pre.holds _ _ pre.legal_move led
 
 pub slid-position-requires : goal.slid-position-requires
 slid-position-requires c =
     let pre = c.requires in
-    may-slide _ _ pre.holds _ _ pre.m_value (leads _ _ pre.holds _ _ pre.m_value c.way-t.ensures)
+    may-slide _ _ pre.holds _ _ pre.legal_move (leads _ _ pre.holds _ _ pre.legal_move c.way-t.ensures)
 
 pub returns : goal.returns
 returns c =
     let pre = c.requires in
-    let led = leads _ _ pre.holds _ _ pre.m_value c.way-t.ensures in
-    let step = move-one_step _ _ _ pre.holds.shape pre.holds.board (passes pre.m_value) in
-    let tells = c.change_to-change.ensures ∙ change-is _ _ pre.holds _ _ pre.m_value led in
-    moved_by _ _ pre.holds _ _ pre.m_value led _ _ c.slid-position.ensures (read_as tells step)
+    let led = leads _ _ pre.holds _ _ pre.legal_move c.way-t.ensures in
+    let step = move-one_step _ _ _ pre.holds.shape pre.holds.board (passes pre.legal_move) in
+    let tells = c.change_to-change.ensures ∙ change-is _ _ pre.holds _ _ pre.legal_move led in
+    moved_by _ _ pre.holds _ _ pre.legal_move led _ _ c.slid-position.ensures (read_as tells step)

@@ -43,10 +43,6 @@ pub returns-then-change-lt0 : goal.returns-then-change-lt0
 returns-then-change-lt0 c =
     less _ _ c.requires c.if-change-lt0.true
 
-pub overflow_add-result : goal.overflow_add-result
-overflow_add-result c =
-    omega (arith, c.requires.most)
-
 pub returns : goal.returns
 returns c =
     more _ _ c.requires c.if-change-lt0.false

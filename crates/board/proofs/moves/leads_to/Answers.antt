@@ -34,7 +34,7 @@ overflow_sub-result c =
     let s = c.args.shape in
     let e = c.args.e in
     below-a-row c.requires.good_shape.wide e
-    (ltb-true 0 (e / s.width) (ap (λ (m : ℕ). stays_on s e m) (sym c.if-m-eq0.true) ∙ c.requires.m_value))
+    (ltb-true 0 (e / s.width) (ap (λ (m : ℕ). stays_on s e m) (sym c.if-m-eq0.true) ∙ c.requires.on_the_grid))
 
 pub returns-then-m-eq0 : goal.returns-then-m-eq0
 unfolding leads_to
@@ -47,7 +47,7 @@ overflow_sub-result-then-m-eq1 c =
     let s = c.args.shape in
     let e = c.args.e in
     right-of-a-column c.requires.good_shape.wide e
-    (ltb-true 0 (e % s.width) (ap (λ (m : ℕ). stays_on s e m) (sym c.if-m-eq1.true) ∙ c.requires.m_value))
+    (ltb-true 0 (e % s.width) (ap (λ (m : ℕ). stays_on s e m) (sym c.if-m-eq1.true) ∙ c.requires.on_the_grid))
 
 pub returns-then-m-eq1 : goal.returns-then-m-eq1
 unfolding leads_to

@@ -5,10 +5,6 @@ use Rattle.board.specs.Moves.{stays_on, legal}
 use Rattle.board.proofs.code.Holding.{empty-below}
 use Rattle.board.proofs.moves.legal.Goals as goal
 
-pub stays_on-requires-clause-good_shape : goal.stays_on-requires-clause-good_shape
-stays_on-requires-clause-good_shape c =
-    c.requires.shape
-
 pub stays_on-requires-clause-e_bound : goal.stays_on-requires-clause-e_bound
 stays_on-requires-clause-e_bound c =
     empty-below _ _ c.requires

@@ -49,10 +49,6 @@ unfolding stays_on
 returns-then-m-eq0 c =
     rw c.if-m-eq0.true (above c.requires.good_shape.wide c.args.e)
 
-pub column_of-requires-clause-side : goal.column_of-requires-clause-side
-column_of-requires-clause-side c =
-    c.requires.good_shape.wide
-
 pub column_of-requires-clause-e_bound : goal.column_of-requires-clause-e_bound
 column_of-requires-clause-e_bound c =
     few_widths c.requires.good_shape c.args.e c.requires.e_bound
@@ -61,10 +57,6 @@ pub returns-then-m-eq1 : goal.returns-then-m-eq1
 unfolding stays_on
 returns-then-m-eq1 c =
     rw (c.if-m-eq1.true, ← c.column_of.ensures)
-
-pub column_of-requires-then-m-eq2-clause-side : goal.column_of-requires-then-m-eq2-clause-side
-column_of-requires-then-m-eq2-clause-side c =
-    c.requires.good_shape.wide
 
 pub column_of-requires-then-m-eq2-clause-e_bound : goal.column_of-requires-then-m-eq2-clause-e_bound
 column_of-requires-then-m-eq2-clause-e_bound c =

@@ -8,16 +8,8 @@ pub returns-then-last-m-eq3 : goal.returns-then-last-m-eq3
 returns-then-last-m-eq3 c =
     sym (way_back _ _ _ _ (eq-eqb _ _ c.if-last-m-eq3.true))
 
-pub leads_to-requires-clause-good_shape : goal.leads_to-requires-clause-good_shape
-leads_to-requires-clause-good_shape c =
-    c.requires.good_shape
-
-pub leads_to-requires-clause-e_bound : goal.leads_to-requires-clause-e_bound
-leads_to-requires-clause-e_bound c =
-    c.requires.e_bound
-
-pub leads_to-requires-clause-m_value : goal.leads_to-requires-clause-m_value
-leads_to-requires-clause-m_value c =
+pub leads_to-requires-clause-on_the_grid : goal.leads_to-requires-clause-on_the_grid
+leads_to-requires-clause-on_the_grid c =
     sym c.stays_on.ensures ∙ c.if-stays_on.true
 
 pub returns-then-stays_on : goal.returns-then-stays_on

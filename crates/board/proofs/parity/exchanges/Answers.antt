@@ -7,7 +7,7 @@ use native.Mathlib.Omega.{arith}
 use lib.ListN.{length, take}
 use Rattle.board.specs.Board.{at}
 use Rattle.board.specs.Order.{FewExchanges}
-use Rattle.board.proofs.code.Cycles.{turns_left, few-turns, in_hand, taken_in_hand, first-turn, ends}
+use Rattle.board.proofs.code.Cycles.{few-turns, taken_in_hand, first-turn, ends}
 use Rattle.board.proofs.code.Cycles.{home_below, home-turn, home-less, exchange-turn, exchange-less}
 use Rattle.board.proofs.parity.exchanges.Invariants.{measure}
 use Rattle.board.proofs.parity.exchanges.Goals as goal
@@ -19,14 +19,6 @@ pub starts_below :
     → 0 < n
     → measure n cells (at cells 0) 0 < 2 * n
 starts_below n cells long some = rw (taken_in_hand n cells 0 some) (few-turns (take n cells) n long some)
-
-pub cell_count-n-requires : goal.cell_count-n-requires
-cell_count-n-requires c =
-    c.requires.shape
-
-pub laid_out-cells-requires : goal.laid_out-cells-requires
-laid_out-cells-requires c =
-    c.requires
 
 pub loop-i-init : goal.loop-i-init
 loop-i-init c =

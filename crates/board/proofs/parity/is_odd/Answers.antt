@@ -40,10 +40,6 @@ module _ (s : Shape) (p : Position) (k : ℕ) (holds : Holds s p) (few : FewExch
     column-below = omega (arith, cell-column holds.shape p.empty, side_within holds.shape.wide);
   }
 
-pub exchanges-count-requires : goal.exchanges-count-requires
-exchanges-count-requires c =
-    c.requires
-
 pub nonzero_div-row : goal.nonzero_div-row
 nonzero_div-row c =
     omega (arith, side_within c.requires.shape.wide)

@@ -34,10 +34,6 @@ module _ (x n : ℕ) (l : List ℕ) (i : ℕ) (copied : Copied x n l i) where
       same : (j : ℕ) → j < n → at (take n l) j ≡ at (digits n x) j
       same j h = get_or-take n l j 0 h ∙ copied.passed j (omega arith) ∙ sym (at-digits n x j h)
 
-pub cell_count-n-requires : goal.cell_count-n-requires
-cell_count-n-requires c =
-    c.requires.shape
-
 pub loop-i-init : goal.loop-i-init
 loop-i-init c =
     record {
@@ -46,22 +42,6 @@ loop-i-init c =
       long = refl;
       passed = λ j h. absurd (omega arith);
     }
-
-pub number_at-requires : goal.number_at-requires
-number_at-requires c =
-    omega (arith, c.loop-i.invariant.few)
-
-pub overflow_cast-cells : goal.overflow_cast-cells
-overflow_cast-cells c =
-    omega (arith, c.number_at.ensures)
-
-pub bounds-cells-i : goal.bounds-cells-i
-bounds-cells-i c =
-    omega (arith, c.loop-i.invariant.few)
-
-pub overflow_add-i : goal.overflow_add-i
-overflow_add-i c =
-    omega (arith, c.loop-i.invariant.few)
 
 pub loop-i-preserved : goal.loop-i-preserved
 loop-i-preserved c =

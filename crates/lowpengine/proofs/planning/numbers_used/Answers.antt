@@ -34,7 +34,8 @@ overflow_add-result c =
 
 pub returns-then-ran : goal.returns-then-ran
 returns-then-ran c =
-    four-each (depth_is (to_z-of_z w32 _ c.ranges.ceiling) c.highest_depth.ensures) ∙ ap (λ b. numbers_used b c.args.ceiling) (sym c.if-ran.true)
+    four-each (depth_is (to_z-of_z w32 _ c.ranges.ceiling) c.highest_depth.ensures)
+    ∙ ap (λ b. numbers_used b c.args.ceiling) (sym c.if-ran.true)
 
 pub returns : goal.returns
 returns c =

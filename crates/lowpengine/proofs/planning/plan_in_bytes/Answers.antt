@@ -1,16 +1,31 @@
 -- `lowpengine::planning::plan_in_bytes` meets its contract: the planner's answer for the table's numbers (OwnTable), packed, and the
 -- bytes cleared where its numbers stand. Assumes nothing.
-use mathlib.Core.Path.{refl, sym, ap₂, ◌∙◌}
-use native.Mathlib.Omega.{arith}
+use Rattle.std.proofs.Common.{ℕ, ◌≡◌, ◌∙◌, ◌≤◌, ◌*◌, ◌/◌, min, Bool, List, length, take, ℤ, to_z, of_z, w32, refl, sym, arith}
+use mathlib.Core.Path.{ap₂}
 use lib.Seq.{length-take-le}
-use mir.Syntax.{w32}
+use mir.Val.{SFits}
 use mir.ValLaws.{to_z-of_z}
-use Rattle.lowpengine.specs.Bytes.{numbers_used}
-use Rattle.lowpengine.proofs.code.OwnTable.{by_own-table, fields-apart, bytes-within, all-given}
+use Rattle.planner.specs.declared.Answer.{Answer}
+use Rattle.planner.specs.Answer.{answered, called, search_ran, Settles}
+use Rattle.lowpengine.specs.Bytes.{numbers, numbers_used}
+use Rattle.lowpengine.proofs.code.OwnTable.{Answered, by_own-table, fields-apart, bytes-within, all-given}
 use Rattle.lowpengine.proofs.planning.plan_in_bytes.Goals as goal
 
-pub slice_bounds-own-end : goal.slice_bounds-own-end
-slice_bounds-own-end c = omega (arith, c.numbers_lent-lent.ensures)
+-- once the planner has answered, the ceiling z handed on and `lent` numbers of the own table lent
+module _ (w h : ℕ) (b : List ℕ) (z : ℤ) (budget p q : ℕ) (moves t own : List ℕ) (lent : ℕ) (r : Answer) (moves' own' : List ℕ)
+    (fits : SFits w32 z) (few : lent ≡ min (length t / 2) 484) (long : length own ≡ 484)
+    (settled : Settles (answered (called w h b (to_z w32 (of_z w32 z)) budget p q moves (take lent own))) r moves' own') where
+  -- the answer is that for the table's numbers
+  planned : Answered (called w h b z budget p q moves (numbers t)) r moves'
+  planned = by_own-table w h b z _ budget p q moves t own lent r moves' own' (to_z-of_z w32 z fits) few long settled
+
+  -- how many numbers are cleared, and that their bytes are the table's
+  module _ (ran : Bool) (k : ℕ) (same : ran ≡ search_ran r) (is : k ≡ numbers_used ran (to_z w32 (of_z w32 z))) where
+    used : k ≡ numbers_used (search_ran r) z
+    used = is ∙ ap₂ numbers_used same (to_z-of_z w32 z fits)
+
+    within : 2 * k ≤ length t
+    within = bytes-within w h b z budget p q moves t r moves' planned k used
 
 pub slice_bounds-plan-end : goal.slice_bounds-plan-end
 slice_bounds-plan-end c = sym (length-take-le _ _ (omega (arith, c.numbers_lent-lent.ensures)))
@@ -19,32 +34,37 @@ pub overflow_mul-used : goal.overflow_mul-used
 overflow_mul-used c =
     omega (
       arith,
-      bytes-within _ _ _ _ _ _ _ _ _ _ _ (by_own-table _ _ _ _ _ _ _ _ _ c.args.table.now _ _ _ _ _ (to_z-of_z w32 _ c.ranges.ceiling) c.numbers_lent-lent.ensures refl
-          c.plan-answer.ensures) _ (c.numbers_used-used.ensures ∙ ap₂ numbers_used c.search_ran.ensures (to_z-of_z w32 _ c.ranges.ceiling)),
+      within _ _ _ _ _ _ _ _ c.args.table.now _ _ _ _ _ c.ranges.ceiling c.numbers_lent-lent.ensures refl c.plan-answer.ensures _ _
+          c.search_ran.ensures c.numbers_used-used.ensures,
     )
 
 pub slice_bounds-clear-end : goal.slice_bounds-clear-end
 slice_bounds-clear-end c =
     omega (
       arith,
-      bytes-within _ _ _ _ _ _ _ _ _ _ _ (by_own-table _ _ _ _ _ _ _ _ _ c.args.table.now _ _ _ _ _ (to_z-of_z w32 _ c.ranges.ceiling) c.numbers_lent-lent.ensures refl
-          c.plan-answer.ensures) _ (c.numbers_used-used.ensures ∙ ap₂ numbers_used c.search_ran.ensures (to_z-of_z w32 _ c.ranges.ceiling)),
+      within _ _ _ _ _ _ _ _ c.args.table.now _ _ _ _ _ c.ranges.ceiling c.numbers_lent-lent.ensures refl c.plan-answer.ensures _ _
+          c.search_ran.ensures c.numbers_used-used.ensures,
     )
 
 pub slice_bounds-clear-end-2 : goal.slice_bounds-clear-end-2
 slice_bounds-clear-end-2 c =
-    sym (length-take-le _ _ (omega (
+    sym
+    (length-take-le _ _
+    (omega (
       arith,
-      bytes-within _ _ _ _ _ _ _ _ _ _ _ (by_own-table _ _ _ _ _ _ _ _ _ c.args.table.now _ _ _ _ _ (to_z-of_z w32 _ c.ranges.ceiling) c.numbers_lent-lent.ensures refl
-          c.plan-answer.ensures) _ (c.numbers_used-used.ensures ∙ ap₂ numbers_used c.search_ran.ensures (to_z-of_z w32 _ c.ranges.ceiling)),
+      within _ _ _ _ _ _ _ _ c.args.table.now _ _ _ _ _ c.ranges.ceiling c.numbers_lent-lent.ensures refl c.plan-answer.ensures _ _
+          c.search_ran.ensures c.numbers_used-used.ensures,
     )))
 
 pub packed_answer-requires : goal.packed_answer-requires
-packed_answer-requires c = fields-apart _ _ _ _ _ _ _ _ _ _ _ (by_own-table _ _ _ _ _ _ _ _ _ c.args.table.now _ _ _ _ _ (to_z-of_z w32 _ c.ranges.ceiling) c.numbers_lent-lent.ensures refl
-    c.plan-answer.ensures)
+packed_answer-requires c =
+    fields-apart _ _ _ _ _ _ _ _ _ _ _
+    (planned _ _ _ _ _ _ _ _ c.args.table.now _ _ _ _ _ c.ranges.ceiling c.numbers_lent-lent.ensures refl c.plan-answer.ensures)
 
 pub returns : goal.returns
 returns c =
-    all-given _ _ _ _ _ _ _ _ _ _ _ (by_own-table _ _ _ _ _ _ _ _ _ c.args.table.now _ _ _ _ _ (to_z-of_z w32 _ c.ranges.ceiling) c.numbers_lent-lent.ensures refl
-    c.plan-answer.ensures) _ (c.numbers_used-used.ensures ∙ ap₂ numbers_used c.search_ran.ensures (to_z-of_z w32 _ c.ranges.ceiling))
+    all-given _ _ _ _ _ _ _ _ _ _ _
+    (planned _ _ _ _ _ _ _ _ c.args.table.now _ _ _ _ _ c.ranges.ceiling c.numbers_lent-lent.ensures refl c.plan-answer.ensures) _
+    (used _ _ _ _ _ _ _ _ c.args.table.now _ _ _ _ _ c.ranges.ceiling c.numbers_lent-lent.ensures refl c.plan-answer.ensures _ _
+    c.search_ran.ensures c.numbers_used-used.ensures)
     (λ i. (c.slice_known-2-1.given i).fits) _ _ c.packed_answer.ensures c.clear.ensures

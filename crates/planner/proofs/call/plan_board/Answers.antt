@@ -5,10 +5,6 @@ use mathlib.Core.Path.{sym, ◌∙◌}
 use Rattle.planner.proofs.code.Testing.{measured-back, refused_limit, of_terms, terms_kept}
 use Rattle.planner.proofs.call.plan_board.Goals as goal
 
-pub plan_within-requires-clause-good_shape : goal.plan_within-requires-clause-good_shape
-plan_within-requires-clause-good_shape c =
-    c.requires
-
 pub plan_within-requires-clause-none_holds : goal.plan_within-requires-clause-none_holds
 plan_within-requires-clause-none_holds c =
     terms_kept _ _ _ _ _ (sym (measured-back _ _ _ _ c.ranges.ceiling c.measured.ensures) ∙ c.in-Within.is)

@@ -9,10 +9,6 @@ pub loop-d-init : goal.loop-d-init
 loop-d-init c =
     begin _ _
 
-pub divides_both-requires : goal.divides_both-requires
-divides_both-requires c =
-    omega (arith, c.loop-d.invariant.low)
-
 pub returns-then-divides_both : goal.returns-then-divides_both
 returns-then-divides_both c =
     found _ _ _ c.loop-d.invariant (told c.divides_both.ensures c.if-divides_both.true)
@@ -21,10 +17,6 @@ pub overflow_add-d : goal.overflow_add-d
 overflow_add-d c =
     let most = weight-passes _ _ c.requires in
     record { fits = omega (arith, c.loop-d-test.true, most.order, most.most) }
-
-pub loop-d-smaller : goal.loop-d-smaller
-loop-d-smaller c =
-    omega (arith, c.loop-d-test.true)
 
 pub loop-d-preserved : goal.loop-d-preserved
 loop-d-preserved c =

@@ -32,10 +32,6 @@ module _ (l found out : List ℕ) (n i : ℕ) (putting : Putting l found out n i
   all-put : n ≤ i → out ≡ puts l found n
   all-put past = let last : i ≡ n = omega arith in putting.same ∙ ap (puts l found) last
 
-pub cell_count-n-requires : goal.cell_count-n-requires
-cell_count-n-requires c =
-    c.requires.holds.shape
-
 pub loop-i-init : goal.loop-i-init
 loop-i-init c =
     record {
@@ -48,10 +44,6 @@ loop-i-init c =
 pub number_at-requires : goal.number_at-requires
 number_at-requires c =
     omega (arith, c.cell_count-n.ensures, cells-within c.requires.holds.shape)
-
-pub overflow_cast-out : goal.overflow_cast-out
-overflow_cast-out c =
-    omega (arith, c.number_at.ensures)
 
 pub bounds-out-i : goal.bounds-out-i
 bounds-out-i c =

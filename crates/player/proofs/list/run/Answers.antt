@@ -47,7 +47,9 @@ module _ (s : Shape) (b moves : List ℕ) (p : Position) (h i m : ℕ) (running 
   unfolding first_bad
   stops below e = record {
     place =
-        sym (first_of_found (bad_at s b moves) 0 (length moves) i (omega arith) (omega arith) (λ j low h. running.good j h) (tells false e));
+        sym
+        (first_of_found (bad_at s b moves) 0 (length moves) i (omega arith) (omega arith) (λ j low h. running.good j h)
+        (tells false e));
     before = running.at;
     kept = running.kept;
   }
@@ -75,21 +77,9 @@ loop-i-init c =
       kept = pre.kept;
     }
 
-pub legal-requires : goal.legal-requires
-legal-requires c =
-    c.loop-i.invariant.at.holds
-
-pub after-moved-requires-clause-holds : goal.after-moved-requires-clause-holds
-after-moved-requires-clause-holds c =
-    c.loop-i.invariant.at.holds
-
-pub after-moved-requires-clause-m_value : goal.after-moved-requires-clause-m_value
-after-moved-requires-clause-m_value c =
+pub after-moved-requires-clause-legal_move : goal.after-moved-requires-clause-legal_move
+after-moved-requires-clause-legal_move c =
     sym c.legal.ensures ∙ c.if-legal.true
-
-pub after-moved-requires-clause-near_table : goal.after-moved-requires-clause-near_table
-after-moved-requires-clause-near_table c =
-    c.requires.near_table
 
 pub changed-h-requires : goal.changed-h-requires
 changed-h-requires c =

@@ -7,7 +7,7 @@ use Rattle.records.proofs.ends.mark_stands.Goals as goal
 
 pub overflow_cast-bytes : goal.overflow_cast-bytes
 overflow_cast-bytes c =
-    omega (arith, (c.shared_slice_known-1.given c.args.at).fits)
+    omega (arith, (c.type_inv.bytes c.args.at).fits)
 
 pub returns-then-bytes-at : goal.returns-then-bytes-at
 unfolding mark_stands
@@ -16,7 +16,7 @@ returns-then-bytes-at c =
 
 pub overflow_cast-bytes-2 : goal.overflow_cast-bytes-2
 overflow_cast-bytes-2 c =
-    omega (arith, (c.shared_slice_known-2-1.given (c.args.at + 1)).fits)
+    omega (arith, (c.type_inv.bytes (c.args.at + 1)).fits)
 
 pub returns-then-bytes-at-2 : goal.returns-then-bytes-at-2
 unfolding mark_stands
@@ -25,7 +25,7 @@ returns-then-bytes-at-2 c =
 
 pub overflow_cast-bytes-3 : goal.overflow_cast-bytes-3
 overflow_cast-bytes-3 c =
-    omega (arith, (c.shared_slice_known-3-1.given (c.args.at + 2)).fits)
+    omega (arith, (c.type_inv.bytes (c.args.at + 2)).fits)
 
 pub returns-then-bytes-at-3 : goal.returns-then-bytes-at-3
 unfolding mark_stands
@@ -34,7 +34,7 @@ returns-then-bytes-at-3 c =
 
 pub overflow_cast-result : goal.overflow_cast-result
 overflow_cast-result c =
-    omega (arith, (c.shared_slice_known-4-1.given (c.args.at + 3)).fits)
+    omega (arith, (c.type_inv.bytes (c.args.at + 3)).fits)
 
 pub returns : goal.returns
 unfolding mark_stands

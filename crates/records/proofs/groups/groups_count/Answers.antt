@@ -28,12 +28,12 @@ pub overflow_add-count : goal.overflow_add-count
 overflow_add-count c =
     let i = c.loop-i.i in
     let numbers = c.args.numbers.now in
-    let few = groups_five (get_or numbers i 0) (c.shared_slice_known-in-loop-i-1.given i).fits in
+    let few = groups_five (get_or numbers i 0) (c.type_inv.numbers i).fits in
     omega (arith, c.loop-i.invariant.most, length-take i numbers, few, c.group_count-count.ensures, c.requires)
 
 pub loop-i-preserved : goal.loop-i-preserved
 loop-i-preserved c =
-    let small = (c.shared_slice_known-in-loop-i-1.given c.loop-i.i).fits in
+    let small = (c.type_inv.numbers c.loop-i.i).fits in
     rw add-one (one_more _ _ _ _ c.loop-i-test.true small c.group_count-count.ensures c.loop-i.invariant)
 
 pub returns : goal.returns

@@ -56,10 +56,6 @@ module _ (n at : ℕ) (old : List ℕ) where
         record { stored = putting.stored ∙ rw (start, all); end = omega (arith, e, groups-longer n) } in
         rw (groups_are n) (put_then led (record { stored = refl; end = omega (arith, e, groups-longer n) }))
 
-pub overflow_add-end : goal.overflow_add-end
-overflow_add-end c =
-    omega (arith, c.group_count.ensures, c.requires)
-
 pub overflow_sub-last : goal.overflow_sub-last
 overflow_sub-last c =
     omega (arith, c.group_count.ensures, groups-longer c.args.n)

@@ -10,7 +10,8 @@ use Rattle.records.proofs.theory.Marks.{mark-none, mark-next}
 use Rattle.records.proofs.mark.mark_before.Invariants.{Marking}
 use Rattle.records.proofs.mark.mark_before.Goals as goal
 
-one_more : (bytes : List ℕ) (end m i next : ℕ) → i < end → end ≤ length bytes → next ≡ mark_step m (get_or bytes i 0) → Marking bytes end m i
+one_more : (bytes : List ℕ) (end m i next : ℕ) → i < end → end ≤ length bytes → next ≡ mark_step m (get_or bytes i 0)
+    → Marking bytes end m i
     → Marking bytes end next (i + 1)
 one_more bytes end m i next inside room step marking = record {
   marks =
@@ -22,10 +23,6 @@ one_more bytes end m i next inside room step marking = record {
 pub loop-i-init : goal.loop-i-init
 loop-i-init c =
     record { marks = sym mark-none; within = omega arith }
-
-pub bounds-bytes-i : goal.bounds-bytes-i
-bounds-bytes-i c =
-    omega (arith, c.requires)
 
 pub loop-i-preserved : goal.loop-i-preserved
 loop-i-preserved c =

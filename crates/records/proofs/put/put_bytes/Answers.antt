@@ -9,10 +9,6 @@ pub loop-i-init : goal.loop-i-init
 loop-i-init c =
     (omega arith, put-none _ _ _ refl)
 
-pub overflow_add-out : goal.overflow_add-out
-overflow_add-out c =
-    omega (arith, c.requires)
-
 pub bounds-out-at : goal.bounds-out-at
 bounds-out-at c =
     omega (arith, c.requires, put-length c.loop-i.invariant.1)
@@ -20,10 +16,6 @@ bounds-out-at c =
 pub loop-i-preserved : goal.loop-i-preserved
 loop-i-preserved c =
     (omega (arith, c.loop-i-test.true), put_next _ _ _ _ _ c.loop-i-test.true c.loop-i.invariant.1)
-
-pub overflow_add-result : goal.overflow_add-result
-overflow_add-result c =
-    omega (arith, c.requires, c.loop-i.invariant.0)
 
 pub shape_of-out : goal.shape_of-out
 shape_of-out c =

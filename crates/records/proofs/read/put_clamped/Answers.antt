@@ -21,7 +21,13 @@ module _ (cells old board : List ℕ) (i : ℕ) where
       → Stands (set board i v) (i + 1)
   one_more v long inside is stands = (
     length-set board i v ∙ stands.0,
-    rw (add-one, take-suc-set board i v (omega (arith, stands.0)), take-suc cells i 0 inside, map_snoc (take i cells) (get_or cells i 0), is)
+    rw (
+      add-one,
+      take-suc-set board i v (omega (arith, stands.0)),
+      take-suc cells i 0 inside,
+      map_snoc (take i cells) (get_or cells i 0),
+      is,
+    )
         (ap (λ front. front ++ clamped (get_or cells i 0) ∷ []) stands.1),
   )
 
@@ -33,17 +39,9 @@ pub loop-i-init : goal.loop-i-init
 loop-i-init c =
     (refl, refl)
 
-pub bounds-board-i : goal.bounds-board-i
-bounds-board-i c =
-    omega (arith, c.loop-i.invariant.0, c.loop-i-test.true, c.requires)
-
 pub loop-i-preserved : goal.loop-i-preserved
 loop-i-preserved c =
     one_more _ c.args.board.now _ _ _ c.requires c.loop-i-test.true c.clamped.ensures c.loop-i.invariant
-
-pub shape_of-board : goal.shape_of-board
-shape_of-board c =
-    c.loop-i.invariant.0
 
 pub returns : goal.returns
 returns c =

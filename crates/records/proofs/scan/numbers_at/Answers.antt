@@ -10,22 +10,10 @@ pub loop-i-init : goal.loop-i-init
 loop-i-init c =
     taken_none _ _ _
 
-pub shape_of-numbers-in-Faulty : goal.shape_of-numbers-in-Faulty
-shape_of-numbers-in-Faulty c =
-    c.loop-i.invariant.long
-
 pub returns-in-Faulty : goal.returns-in-Faulty
 returns-in-Faulty c =
     stops _ _ _ _ _ _ c.loop-i.invariant _ c.loop-i-test.true
     (sym c.number_at.ensures ∙ c.in-Faulty.is)
-
-pub bounds-numbers-i : goal.bounds-numbers-i
-bounds-numbers-i c =
-    omega (arith, c.loop-i-test.true)
-
-pub overflow_add-i : goal.overflow_add-i
-overflow_add-i c =
-    omega (arith, c.loop-i-test.true)
 
 pub loop-i-smaller : goal.loop-i-smaller
 loop-i-smaller c =
@@ -35,10 +23,6 @@ pub loop-i-preserved : goal.loop-i-preserved
 loop-i-preserved c =
     goes_on_lem _ _ _ _ _ _ c.loop-i.invariant _ _ c.loop-i-test.true
     (sym c.number_at.ensures ∙ c.in-Number.is)
-
-pub shape_of-numbers : goal.shape_of-numbers
-shape_of-numbers c =
-    c.loop-i.invariant.long
 
 pub returns : goal.returns
 returns c =

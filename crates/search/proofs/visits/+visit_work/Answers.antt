@@ -66,10 +66,10 @@ work-returns-then-stops_at t c =
 pub work-loop-moves-init : goal.work-loop-moves-init
 work-loop-moves-init t c =
     begins _ _ _ _ _ _ _ _ (ap (λ (x : Choice). x.value) c.row_best-best.ensures)
-    (not-false _ (sym c.stops_at.ensures ∙ c.if-stops_at.false)) c.requires.fact
+    (not-false _ (sym c.stops_at.ensures ∙ c.if-stops_at.false)) c.requires.is_open
 
-pub work-after-next-requires-clause-m_value : goal.work-after-next-requires-clause-m_value
-work-after-next-requires-clause-m_value t c =
+pub work-after-next-requires-clause-legal_move : goal.work-after-next-requires-clause-legal_move
+work-after-next-requires-clause-legal_move t c =
     picked_legal _ _ c.row_pick-pick.ensures _ _ _ c.loop-moves.invariant.is_open c.loop-moves.invariant.on
 
 pub work-changed-next_h-requires : goal.work-changed-next_h-requires

@@ -64,25 +64,10 @@ first-at job b g stored h k m is leads =
 
 -- one step farther
 
-pub way-t-requires-clause-good_shape : goal.way-t-requires-clause-good_shape
-way-t-requires-clause-good_shape c =
-    let pre = c.requires in
-    pre.kept.holds.shape
-
 pub way-t-requires-clause-e_bound : goal.way-t-requires-clause-e_bound
 way-t-requires-clause-e_bound c =
     let pre = c.requires in
     empty-below _ _ pre.kept.holds
-
-pub way-t-requires-clause-last_bound : goal.way-t-requires-clause-last_bound
-way-t-requires-clause-last_bound c =
-    let pre = c.requires in
-    (omega (arith, pre.last_bound.0), pre.last_bound.1)
-
-pub way-t-requires-clause-near_table : goal.way-t-requires-clause-near_table
-way-t-requires-clause-near_table c =
-    let pre = c.requires in
-    pre.near_table
 
 pub returns-then-t-e : goal.returns-then-t-e
 returns-then-t-e c =
@@ -90,24 +75,12 @@ returns-then-t-e c =
     no-successor _ _ _ _ _ _ _ _
     (none-by-cell _ _ _ _ _ holds.empty (way-none _ _ _ _ holds.shape _ c.way-t.ensures c.if-t-e.true))
 
-pub change_to-requires-clause-holds : goal.change_to-requires-clause-holds
-change_to-requires-clause-holds c =
-    let pre = c.requires in
-    let a = c.args in
-    pre.kept.holds
-
 pub change_to-requires-clause-t_bound : goal.change_to-requires-clause-t_bound
 change_to-requires-clause-t_bound c =
     let pre = c.requires in
     let a = c.args in
     let inside = way-inside a.job.shape a.p.empty a.last a.m pre.kept.holds.shape (empty-below _ _ pre.kept.holds) in
     omega (arith, inside, c.way-t.ensures)
-
-pub change_to-requires-clause-near_table : goal.change_to-requires-clause-near_table
-change_to-requires-clause-near_table c =
-    let pre = c.requires in
-    let a = c.args in
-    pre.near_table
 
 pub returns-then-change_to-lt0 : goal.returns-then-change_to-lt0
 returns-then-change_to-lt0 c =

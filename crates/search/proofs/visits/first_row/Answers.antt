@@ -14,24 +14,15 @@ use Rattle.search.proofs.code.TableRows.{four-stores}
 use Rattle.search.proofs.visits.first_row.Goals as goal
 
 -- the value v of the successors at distance k, by the f that the code computed
-value-is : (job : Job) (g h stored f k v : ℕ) → f ≡ value_at job g h → v ≡ cut_at job (g + 1) k (first_stored f stored (value_at job (g + 1) k))
+value-is : (job : Job) (g h stored f k v : ℕ) → f ≡ value_at job g h
+    → v ≡ cut_at job (g + 1) k (first_stored f stored (value_at job (g + 1) k))
     → v ≡ first_at job g h stored k
 value-is job g h stored f k v e is = is ∙ ap₂ (λ (x n : ℕ). cut_at job n k (first_stored x stored (value_at job n k))) e (add-one g)
-
-pub static_value-f-requires-clause-small_job : goal.static_value-f-requires-clause-small_job
-static_value-f-requires-clause-small_job c =
-    let pre = c.requires in
-    pre.small_job
 
 pub static_value-f-requires-clause-h_bound : goal.static_value-f-requires-clause-h_bound
 static_value-f-requires-clause-h_bound c =
     let pre = c.requires in
     (omega (arith, kept-most _ _ _ pre.kept.0), omega (arith, pre.last_bound.1))
-
-pub first_value-closer-requires-clause-small_job : goal.first_value-closer-requires-clause-small_job
-first_value-closer-requires-clause-small_job c =
-    let pre = c.requires in
-    pre.small_job
 
 pub first_value-closer-requires-clause-h_bound : goal.first_value-closer-requires-clause-h_bound
 first_value-closer-requires-clause-h_bound c =
@@ -43,23 +34,10 @@ overflow_add-h c =
     let pre = c.requires in
     omega (arith, kept-most _ _ _ pre.kept.0)
 
-pub first_value-farther-requires-clause-small_job : goal.first_value-farther-requires-clause-small_job
-first_value-farther-requires-clause-small_job c =
-    let pre = c.requires in
-    pre.small_job
-
 pub first_value-farther-requires-clause-h_bound : goal.first_value-farther-requires-clause-h_bound
 first_value-farther-requires-clause-h_bound c =
     let pre = c.requires in
     (omega (arith, kept-most _ _ _ pre.kept.0), omega (arith, pre.last_bound.1))
-
-pub first_entry-requires-clause-kept : goal.first_entry-requires-clause-kept
-first_entry-requires-clause-kept c =
-    c.requires.kept.0
-
-pub first_entry-requires-clause-last_bound : goal.first_entry-requires-clause-last_bound
-first_entry-requires-clause-last_bound c =
-    (c.requires.last_bound.0, omega arith)
 
 pub first_entry-requires-clause-closer_value : goal.first_entry-requires-clause-closer_value
 first_entry-requires-clause-closer_value c =
@@ -69,18 +47,6 @@ first_entry-requires-clause-closer_value c =
       value-is a.job a.g a.h _ _ _ _ f c.first_value-farther.ensures,
     )
 
-pub first_entry-requires-clause-near_table : goal.first_entry-requires-clause-near_table
-first_entry-requires-clause-near_table c =
-    c.requires.near_table
-
-pub first_entry-requires-2-clause-kept : goal.first_entry-requires-2-clause-kept
-first_entry-requires-2-clause-kept c =
-    c.requires.kept.0
-
-pub first_entry-requires-2-clause-last_bound : goal.first_entry-requires-2-clause-last_bound
-first_entry-requires-2-clause-last_bound c =
-    (c.requires.last_bound.0, omega arith)
-
 pub first_entry-requires-2-clause-closer_value : goal.first_entry-requires-2-clause-closer_value
 first_entry-requires-2-clause-closer_value c =
     let a = c.args in
@@ -89,21 +55,9 @@ first_entry-requires-2-clause-closer_value c =
       value-is a.job a.g a.h _ _ _ _ f c.first_value-farther.ensures,
     )
 
-pub first_entry-requires-2-clause-near_table : goal.first_entry-requires-2-clause-near_table
-first_entry-requires-2-clause-near_table c =
-    c.requires.near_table
-
 pub bounds-table-at-2 : goal.bounds-table-at-2
 bounds-table-at-2 c =
     simp length-set (omega (arith, c.requires.g_in_bounds))
-
-pub first_entry-requires-3-clause-kept : goal.first_entry-requires-3-clause-kept
-first_entry-requires-3-clause-kept c =
-    c.requires.kept.0
-
-pub first_entry-requires-3-clause-last_bound : goal.first_entry-requires-3-clause-last_bound
-first_entry-requires-3-clause-last_bound c =
-    (c.requires.last_bound.0, omega arith)
 
 pub first_entry-requires-3-clause-closer_value : goal.first_entry-requires-3-clause-closer_value
 first_entry-requires-3-clause-closer_value c =
@@ -113,29 +67,9 @@ first_entry-requires-3-clause-closer_value c =
       value-is a.job a.g a.h _ _ _ _ f c.first_value-farther.ensures,
     )
 
-pub first_entry-requires-3-clause-near_table : goal.first_entry-requires-3-clause-near_table
-first_entry-requires-3-clause-near_table c =
-    c.requires.near_table
-
-pub overflow_add-table-2 : goal.overflow_add-table-2
-overflow_add-table-2 c =
-    omega (arith, c.requires.small_job.ceiling, c.requires.last_bound.1)
-
-pub offset_bounds-table-at-3 : goal.offset_bounds-table-at-3
-offset_bounds-table-at-3 c =
-    omega (arith, c.requires.small_job.ceiling, c.requires.last_bound.1)
-
 pub bounds-table-at-3 : goal.bounds-table-at-3
 bounds-table-at-3 c =
     simp length-set (omega (arith, c.requires.g_in_bounds))
-
-pub first_entry-requires-4-clause-kept : goal.first_entry-requires-4-clause-kept
-first_entry-requires-4-clause-kept c =
-    c.requires.kept.0
-
-pub first_entry-requires-4-clause-last_bound : goal.first_entry-requires-4-clause-last_bound
-first_entry-requires-4-clause-last_bound c =
-    (c.requires.last_bound.0, omega arith)
 
 pub first_entry-requires-4-clause-closer_value : goal.first_entry-requires-4-clause-closer_value
 first_entry-requires-4-clause-closer_value c =
@@ -144,18 +78,6 @@ first_entry-requires-4-clause-closer_value c =
       value-is a.job a.g a.h _ _ _ _ f c.first_value-closer.ensures,
       value-is a.job a.g a.h _ _ _ _ f c.first_value-farther.ensures,
     )
-
-pub first_entry-requires-4-clause-near_table : goal.first_entry-requires-4-clause-near_table
-first_entry-requires-4-clause-near_table c =
-    c.requires.near_table
-
-pub overflow_add-table-3 : goal.overflow_add-table-3
-overflow_add-table-3 c =
-    omega (arith, c.requires.small_job.ceiling, c.requires.last_bound.1)
-
-pub offset_bounds-table-at-4 : goal.offset_bounds-table-at-4
-offset_bounds-table-at-4 c =
-    omega (arith, c.requires.small_job.ceiling, c.requires.last_bound.1)
 
 pub bounds-table-at-4 : goal.bounds-table-at-4
 bounds-table-at-4 c =
