@@ -1,13 +1,16 @@
 -- What the statements of the public functions settle: any two results that one of them allows are equal.
---     one-position      `held::hold` and `moves::after` make the same position of the same board
---     one_moved         `moves::after`
+--     one-position      `held::hold` and `Cabinet::after` make the same position of the same board
+--     one_moved         `Cabinet::after`
 --     one_changed       `moves::changed`
 --     one_table         `distance::distances`
---     one-near-table    `distance::near_table`
+--     one-near-table    the table that a `Cabinet` keeps
+--     one-cabinet       `Cabinet::new`
 -- Every other public function's statement is an equation `r ≡ ..`, which allows one result by itself. Assumes nothing.
 use Prim.Native.Nat.{ℕ, ◌+◌, ◌*◌, ◌/◌, ◌%◌, ◌<◌}
 use mathlib.Core.Path.{◌≡◌, sym, ap, ◌∙◌}
 use mathlib.Core.List.{List}
+use mathlib.Core.HLevel.{is_prop→PathP}
+use denote.Struct.Props.{props}
 use native.Mathlib.Omega.{arith}
 use lib.ListN.{length, get_or}
 use lib.IntN.{ℤ, pos, ◌+ℤ◌, nat_abs}
@@ -15,7 +18,9 @@ use lib.Seq.{ext_get_or}
 use Rattle.board.specs.declared.Shape.{Shape}
 use Rattle.board.specs.declared.Position.{Position}
 use Rattle.board.specs.declared.Moved.{Moved}
-use Rattle.board.specs.Shape.{cells}
+use Rattle.board.specs.declared.cabinet.Cabinet.{Cabinet}
+use Rattle.board.specs.Shape.{cells, GoodShape}
+use Rattle.board.specs.Once.{Side-prop}
 use Rattle.board.specs.Board.{empty_cell}
 use Rattle.board.specs.Distance.{DistanceTable, NearTable}
 use Rattle.board.specs.Moves.{after}
@@ -66,3 +71,17 @@ one_table t u p q = ext_get_or 0 t u (p.long ∙ sym q.long) entries
 pub one-near-table : (s : Shape) (l m : List ℕ) → NearTable s l → NearTable s m → l ≡ m
 one-near-table s l m p q =
     ext_get_or 0 l m (p.long ∙ sym q.long) (λ k below. p.entry k (omega (arith, p.long)) ∙ sym (q.entry k (omega (arith, p.long))))
+
+cabinet-is : (c d : Cabinet) → c.shape ≡ d.shape → c.near ≡ d.near → c ≡ d
+cabinet-is c d e f =
+    λ i. record {
+      shape = e i;
+      near = f i;
+      good = is_prop→PathP (λ j. GoodShape (e j)) (λ j. hlevel (props, Side-prop)) c.good d.good i;
+      table = is_prop→PathP (λ j. NearTable (e j) (f j)) (λ j. hlevel props) c.table d.table i;
+    }
+
+pub one-cabinet : (s : Shape) (c d : Cabinet) → c.shape ≡ s → d.shape ≡ s → c ≡ d
+one-cabinet s c d p q =
+    let same = p ∙ sym q in
+    cabinet-is c d same (one-near-table d.shape c.near d.near (rw same at c.table) d.table)

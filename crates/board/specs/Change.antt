@@ -4,6 +4,7 @@ use Rattle.std.specs.Prelude.{ℕ, ◌≤◌, ◌≡◌, cond, List, [], ◌∷�
 use Rattle.board.specs.declared.Shape.{Shape}
 use Rattle.board.specs.declared.Position.{Position}
 use Rattle.board.specs.declared.Moved.{Moved}
+use Rattle.board.specs.declared.Place.{Place}
 use Rattle.board.specs.Board.{at, empty_cell}
 use Rattle.board.specs.Moves.{leads_to, after}
 use Rattle.board.specs.Distance.{tray_distance, distance}
@@ -44,6 +45,11 @@ pub record MovedBy (s : Shape) (b : List ℕ) (m : ℕ) (r : Moved) : Type 0 whe
 pub record Kept (s : Shape) (p : Position) (h : ℕ) : Type 0 where
   pub holds : Holds s p
   pub full : h ≡ distance s (held s p)
+
+-- the place that a move of the board b leads to: the position holds the board after it, and its distance is kept
+pub record LeadsTo (s : Shape) (b : List ℕ) (m : ℕ) (r : Place) : Type 0 where
+  pub position : Taken s (after s b m) r.position
+  pub kept : Kept s r.position r.h
 
 -- a change that leads from the distance h to a distance
 pub record LeadsOn (h : ℕ) (z : ℤ) : Type 0 where

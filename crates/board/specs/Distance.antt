@@ -51,6 +51,11 @@ way s e last m = cond (stays_on s e m && not (eqb (last + m) 3)) (leads_to s e m
 abbrev pub way_at : Shape → ℕ → ℕ → ℕ
 way_at s e k = way s e (k / 4) (k % 4)
 
+-- the four ways from cell e where no move is taken back
+pub record FirstWays (s : Shape) (e : ℕ) (ways : List ℕ) : Type 0 where
+  pub long : length ways ≡ 4
+  pub each : (m : ℕ) → m < 4 → get_or ways m 0 ≡ way s e 4 m
+
 -- what a shape's own table has for its cell e: at v what the tray v in cell e adds, and at 16 + 4 × last + m the way by m after `last`
 unfoldable pub cell_at : Shape → ℕ → ℕ → ℕ
 cell_at s e j =

@@ -1,12 +1,10 @@
 -- Tests 1 to 4 of a width, a height and a board as they were given, in the paper's order: the first that holds is the answer.
 -- Each fault has the paper's number and, for 3 and 4, the cell. Assumes nothing.
-use Rattle.std.specs.Prelude.{ℕ, ◌*◌, Bool, not, ◌||◌, List, [], ◌∷◌, ltb, leb, eqb, length}
+use Rattle.std.specs.Prelude.{ℕ, ◌*◌, Bool, not, ◌||◌, List, [], ◌∷◌, ltb, leb, eqb, length, Result, Ok, Err}
 use Rattle.std.proofs.Math.Option.{Option, none, some}
 use Rattle.board.specs.declared.Shape.{Shape}
 use Rattle.board.specs.declared.Fault.{Fault}
 use Rattle.board.specs.declared.Fault.TheVariants.{BadShape, BadLength, TooLarge, Repeated}
-use Rattle.board.specs.declared.Tested.{Tested}
-use Rattle.board.specs.declared.Tested.TheVariants.{Sound, Faulty}
 use Rattle.board.specs.First.{first_of}
 use Rattle.board.specs.Tests.{Test, test, first_refusal}
 use Rattle.board.specs.Shape.{bad_side}
@@ -39,11 +37,11 @@ fault_tests width height b =
     ∷ []
 
 -- what they say: a fault, or the shape
-unfoldable pub said_of : Shape → Option Fault → Tested
-said_of s (some fault) = Faulty fault
-said_of s none = Sound s
+unfoldable pub said_of : Shape → Option Fault → Result Shape Fault
+said_of s (some fault) = Err fault
+said_of s none = Ok s
 
-unfoldable pub tested : ℕ → ℕ → List ℕ → Tested
+unfoldable pub tested : ℕ → ℕ → List ℕ → Result Shape Fault
 tested width height b = said_of (record { width = width; height = height }) (first_refusal (fault_tests width height b))
 
 -- the paper's number of each fault, and the cell (0 but for 3 and 4)

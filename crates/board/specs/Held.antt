@@ -1,6 +1,6 @@
--- How a board is held in a struct: in one number, four bits a cell, cell 0 the lowest; the empty cell stands beside it. Then a copy
--- of it, a byte a cell; what a slide asks of a position, and what it makes of it. Assumes nothing.
-use Rattle.std.specs.Prelude.{ℕ, ◌+◌, ◌*◌, ◌^◌, ◌<◌, ◌≡◌, List, length, take}
+-- How a board is held in a struct: in one number, four bits a cell, cell 0 the lowest; the empty cell stands beside it. Then
+-- what a slide asks of a position, and what it makes of it. Assumes nothing.
+use Rattle.std.specs.Prelude.{ℕ, ◌+◌, ◌*◌, ◌^◌, ◌<◌, ◌≡◌, List}
 use Rattle.board.specs.declared.Shape.{Shape}
 use Rattle.board.specs.declared.Position.{Position}
 use Rattle.board.specs.Shape.{cells, GoodShape}
@@ -22,11 +22,6 @@ pub record Holds (s : Shape) (p : Position) : Type 0 where
 pub record Taken (s : Shape) (b : List ℕ) (p : Position) : Type 0 where
   pub same : held s p ≡ b
   pub holds : Holds s p
-
--- a copy of the board that a position holds: the first of sixteen bytes are its cells
-pub record LaidOut (s : Shape) (p : Position) (l : List ℕ) : Type 0 where
-  pub long : length l ≡ 16
-  pub front : take (cells s) l ≡ held s p
 
 -- a slide from cell t: with its tray in the empty cell too, the number still fits 64 bits
 pub record Slides (p : Position) (t : ℕ) : Type 0 where

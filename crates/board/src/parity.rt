@@ -2,10 +2,10 @@
 ghost use Rattle.std.specs.Prelude.{◌≡◌};
 ghost use Rattle.board.specs.Parity.{is_odd};
 ghost use Rattle.board.specs.Order.{FewExchanges};
-ghost use Rattle.board.specs.Held.{held, Holds, LaidOut};
+ghost use Rattle.board.specs.Held.{held, Holds};
 
-use crate::held::{cell_count, number_at};
-use crate::{Position, Shape, number_of};
+use crate::held::{cell_count, put, row_and_column};
+use crate::{Position, Shape};
 
 // Inversions plus row and column of the empty cell make an odd sum: no legal list leads to the goal.
 pub fn is_odd(shape: Shape, p: Position) -> bool
@@ -13,10 +13,7 @@ pub fn is_odd(shape: Shape, p: Position) -> bool
     ensures { result ≡ is_odd shape (held shape p) }
 {
     let count = exchanges(shape, p);
-    let width = shape.width;
-    let e = p.empty;
-    let row = e / width;
-    let column = e % width;
+    let (row, column) = row_and_column(shape, p.empty);
     (count + row + column) % 2 == 1
 }
 
@@ -28,12 +25,14 @@ fn exchanges(shape: Shape, p: Position) -> usize
     ensures { FewExchanges (held shape p) result }
 {
     let n = cell_count(shape);
-    let mut cells = laid_out(shape, p);
+    let mut cells = [0u8; 16];
+    put(shape, p, &mut cells);
     let mut hand = cells[0];
     let mut count = 0;
     let mut i = 0;
+    // No `for`: i stands still while a cycle is followed, and `starts_below` bounds the turns by this loop's measure.
     while i + 1 < n {
-        let home = number_of(hand);
+        let home = usize::from(hand);
         if home == i {
             cells[i] = hand;
             i += 1;
@@ -46,19 +45,4 @@ fn exchanges(shape: Shape, p: Position) -> usize
         count += 1;
     }
     count
-}
-
-// The held board, a cell a byte.
-fn laid_out(shape: Shape, p: Position) -> [u8; 16]
-    requires { Holds shape p }
-    ensures { LaidOut shape p result }
-{
-    let n = cell_count(shape);
-    let mut cells = [0u8; 16];
-    let mut i = 0;
-    while i < n {
-        cells[i] = number_at(p, i) as u8;
-        i += 1;
-    }
-    cells
 }

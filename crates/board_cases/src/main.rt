@@ -6,29 +6,24 @@
 
 ghost use Rattle.board.specs.Shape.{GoodShape};
 ghost use Rattle.board.specs.Board.{IsBoard};
-ghost use Rattle.board.specs.Distance.{NearTable};
 ghost use Rattle.board.specs.Held.{Holds};
 
-use board::distance::{distance, near_table};
-use board::faults::{cell, number, tested};
+use board::cabinet::Cabinet;
+use board::faults::tested;
 use board::held::{cell_count, hold, number_at};
-use board::moves::{after, legal};
+use board::moves::legal;
+use board::numbered::Numbered;
 use board::parity::is_odd;
-use board::{Position, Shape, Tested};
+use board::{Position, Shape};
 use std::io;
 
 fn show(rt: &impl Print, width: u32, height: u32, cells: &[u8]) -> io::Result<()> {
-    print!(rt; "{width}")?;
-    print_field(rt, height as usize)?;
-    match tested(width, height, cells) {
-        Tested::Faulty(fault) => {
-            print_field(rt, number(fault) as usize)?;
-            print_field(rt, cell(fault))?;
-        }
-        Tested::Sound(shape) => {
-            print!(rt; " 0 0")?;
-            show_sound(rt, shape, cells)?;
-        }
+    let answer = tested(width, height, cells);
+    let number = answer.number();
+    let place = answer.place();
+    print!(rt; "{width} {height} {number} {place}")?;
+    if let Ok(shape) = answer {
+        show_sound(rt, shape, cells)?;
     }
     println!(rt)
 }
@@ -38,13 +33,13 @@ fn show_sound(rt: &impl Print, shape: Shape, cells: &[u8]) -> io::Result<()>
     requires board { IsBoard shape cells.now }
 {
     let p = hold(shape, cells);
-    let near = near_table(shape);
-    let h = distance(shape, p, &near);
-    print_field(rt, h)?;
-    print_yes(rt, h == 0)?;
-    print_yes(rt, is_odd(shape, p))?;
+    let cabinet = Cabinet::new(shape);
+    let h = cabinet.distance(p);
+    let goal = yes(h == 0);
+    let odd = yes(is_odd(shape, p));
+    print!(rt; " {h} {goal} {odd}")?;
     show_moves(rt, shape, p)?;
-    show_after_first(rt, shape, p, &near)
+    show_after_first(rt, &cabinet, p)
 }
 
 fn show_moves(rt: &impl Print, shape: Shape, p: Position) -> io::Result<()>
@@ -53,21 +48,21 @@ fn show_moves(rt: &impl Print, shape: Shape, p: Position) -> io::Result<()>
     print!(rt; " ")?;
     for m in 0..4 {
         if legal(shape, p, m) {
-            print_letter(rt, m)?;
+            let letter = letter(m);
+            print!(rt; "{letter}")?;
         }
     }
     Ok(())
 }
 
 // The board after the first legal move.
-fn show_after_first(rt: &impl Print, shape: Shape, p: Position, near: &[u8; 1024]) -> io::Result<()>
-    requires holds { Holds shape p }
-    requires near_table { NearTable shape near.now }
+fn show_after_first(rt: &impl Print, cabinet: &Cabinet, p: Position) -> io::Result<()>
+    requires { Holds cabinet.now.shape p }
 {
     for m in 0..4 {
-        if legal(shape, p, m) {
-            let next = after(shape, p, m, near);
-            return print_cells(rt, shape, next.position);
+        if legal(cabinet.shape, p, m) {
+            let next = cabinet.after(p, m);
+            return print_cells(rt, cabinet.shape, next.position);
         }
     }
     Ok(())
@@ -77,162 +72,135 @@ fn print_cells(rt: &impl Print, shape: Shape, p: Position) -> io::Result<()>
     requires { GoodShape shape }
 {
     for i in 0..cell_count(shape) {
-        print_field(rt, number_at(p, i))?;
+        let number = number_at(p, i);
+        print!(rt; " {number}")?;
     }
     Ok(())
 }
 
-// A number with a space before it.
-fn print_field(rt: &impl Print, n: usize) -> io::Result<()> {
-    print!(rt; " {n}")
+fn yes(answer: bool) -> &'static str {
+    if answer { "yes" } else { "no" }
 }
 
-fn print_yes(rt: &impl Print, yes: bool) -> io::Result<()> {
-    if yes {
-        print!(rt; " yes")
-    } else {
-        print!(rt; " no")
-    }
-}
-
-fn print_letter(rt: &impl Print, m: usize) -> io::Result<()> {
+fn letter(m: usize) -> char {
     match m {
-        0 => print!(rt; "U"),
-        1 => print!(rt; "L"),
-        2 => print!(rt; "R"),
-        _ => print!(rt; "D"),
+        0 => 'U',
+        1 => 'L',
+        2 => 'R',
+        _ => 'D',
     }
 }
 
-fn two_wide(rt: &impl Print) -> io::Result<()> {
-    show(rt, 2, 2, &[0, 1, 2, 3])?;
-    show(rt, 2, 2, &[3, 2, 1, 0])?;
-    show(rt, 2, 2, &[3, 1, 0, 2])?;
-    show(rt, 2, 2, &[1, 2, 3, 0])?;
-    show(rt, 2, 2, &[1, 0, 3, 2])?;
-    show(rt, 2, 3, &[0, 1, 2, 3, 4, 5])?;
-    show(rt, 2, 3, &[5, 4, 3, 2, 1, 0])?;
-    show(rt, 2, 3, &[2, 5, 3, 0, 1, 4])?;
-    show(rt, 2, 3, &[2, 5, 4, 1, 0, 3])?;
-    show(rt, 2, 3, &[1, 2, 3, 5, 4, 0])?;
-    show(rt, 2, 4, &[0, 1, 2, 3, 4, 5, 6, 7])?;
-    show(rt, 2, 4, &[7, 6, 5, 4, 3, 2, 1, 0])?;
-    show(rt, 2, 4, &[4, 2, 3, 5, 7, 1, 0, 6])?;
-    show(rt, 2, 4, &[1, 5, 3, 7, 6, 0, 4, 2])?;
-    show(rt, 2, 4, &[5, 3, 0, 2, 7, 6, 4, 1])
-}
-
-fn three_wide(rt: &impl Print) -> io::Result<()> {
-    show(rt, 3, 2, &[0, 1, 2, 3, 4, 5])?;
-    show(rt, 3, 2, &[5, 4, 3, 2, 1, 0])?;
-    show(rt, 3, 2, &[5, 2, 3, 1, 0, 4])?;
-    show(rt, 3, 2, &[0, 5, 1, 4, 3, 2])?;
-    show(rt, 3, 2, &[2, 3, 0, 4, 5, 1])?;
-    show(rt, 3, 3, &[0, 1, 2, 3, 4, 5, 6, 7, 8])?;
-    show(rt, 3, 3, &[8, 7, 6, 5, 4, 3, 2, 1, 0])?;
-    show(rt, 3, 3, &[1, 0, 4, 6, 3, 5, 2, 7, 8])?;
-    show(rt, 3, 3, &[5, 0, 4, 3, 7, 2, 8, 6, 1])?;
-    show(rt, 3, 3, &[0, 8, 4, 3, 6, 7, 2, 5, 1])?;
-    show(rt, 3, 4, &[0, 1, 2, 3, 4, 5, 6, 7, 8, 9, 10, 11])?;
-    show(rt, 3, 4, &[11, 10, 9, 8, 7, 6, 5, 4, 3, 2, 1, 0])?;
-    show(rt, 3, 4, &[6, 9, 8, 3, 2, 5, 0, 10, 7, 4, 11, 1])?;
-    show(rt, 3, 4, &[6, 2, 8, 3, 9, 4, 1, 11, 7, 0, 5, 10])?;
-    show(rt, 3, 4, &[11, 10, 5, 1, 0, 9, 7, 8, 6, 3, 2, 4])
-}
-
-fn four_wide(rt: &impl Print) -> io::Result<()> {
-    show(rt, 4, 2, &[0, 1, 2, 3, 4, 5, 6, 7])?;
-    show(rt, 4, 2, &[7, 6, 5, 4, 3, 2, 1, 0])?;
-    show(rt, 4, 2, &[0, 6, 5, 2, 7, 3, 1, 4])?;
-    show(rt, 4, 2, &[6, 2, 0, 4, 1, 3, 7, 5])?;
-    show(rt, 4, 2, &[7, 3, 4, 0, 6, 5, 1, 2])?;
-    show(rt, 4, 3, &[0, 1, 2, 3, 4, 5, 6, 7, 8, 9, 10, 11])?;
-    show(rt, 4, 3, &[11, 10, 9, 8, 7, 6, 5, 4, 3, 2, 1, 0])?;
-    show(rt, 4, 3, &[1, 3, 9, 5, 7, 8, 10, 6, 2, 0, 11, 4])?;
-    show(rt, 4, 3, &[4, 1, 2, 5, 0, 11, 3, 9, 6, 8, 10, 7])?;
-    show(rt, 4, 3, &[6, 4, 8, 5, 2, 11, 9, 7, 10, 1, 3, 0])?;
-    show(
-        rt,
+// Width, height and cells: sound boards of each shape.
+const SOUND: [(u32, u32, &[u8]); 45] = [
+    (2, 2, &[0, 1, 2, 3]),
+    (2, 2, &[3, 2, 1, 0]),
+    (2, 2, &[3, 1, 0, 2]),
+    (2, 2, &[1, 2, 3, 0]),
+    (2, 2, &[1, 0, 3, 2]),
+    (2, 3, &[0, 1, 2, 3, 4, 5]),
+    (2, 3, &[5, 4, 3, 2, 1, 0]),
+    (2, 3, &[2, 5, 3, 0, 1, 4]),
+    (2, 3, &[2, 5, 4, 1, 0, 3]),
+    (2, 3, &[1, 2, 3, 5, 4, 0]),
+    (2, 4, &[0, 1, 2, 3, 4, 5, 6, 7]),
+    (2, 4, &[7, 6, 5, 4, 3, 2, 1, 0]),
+    (2, 4, &[4, 2, 3, 5, 7, 1, 0, 6]),
+    (2, 4, &[1, 5, 3, 7, 6, 0, 4, 2]),
+    (2, 4, &[5, 3, 0, 2, 7, 6, 4, 1]),
+    (3, 2, &[0, 1, 2, 3, 4, 5]),
+    (3, 2, &[5, 4, 3, 2, 1, 0]),
+    (3, 2, &[5, 2, 3, 1, 0, 4]),
+    (3, 2, &[0, 5, 1, 4, 3, 2]),
+    (3, 2, &[2, 3, 0, 4, 5, 1]),
+    (3, 3, &[0, 1, 2, 3, 4, 5, 6, 7, 8]),
+    (3, 3, &[8, 7, 6, 5, 4, 3, 2, 1, 0]),
+    (3, 3, &[1, 0, 4, 6, 3, 5, 2, 7, 8]),
+    (3, 3, &[5, 0, 4, 3, 7, 2, 8, 6, 1]),
+    (3, 3, &[0, 8, 4, 3, 6, 7, 2, 5, 1]),
+    (3, 4, &[0, 1, 2, 3, 4, 5, 6, 7, 8, 9, 10, 11]),
+    (3, 4, &[11, 10, 9, 8, 7, 6, 5, 4, 3, 2, 1, 0]),
+    (3, 4, &[6, 9, 8, 3, 2, 5, 0, 10, 7, 4, 11, 1]),
+    (3, 4, &[6, 2, 8, 3, 9, 4, 1, 11, 7, 0, 5, 10]),
+    (3, 4, &[11, 10, 5, 1, 0, 9, 7, 8, 6, 3, 2, 4]),
+    (4, 2, &[0, 1, 2, 3, 4, 5, 6, 7]),
+    (4, 2, &[7, 6, 5, 4, 3, 2, 1, 0]),
+    (4, 2, &[0, 6, 5, 2, 7, 3, 1, 4]),
+    (4, 2, &[6, 2, 0, 4, 1, 3, 7, 5]),
+    (4, 2, &[7, 3, 4, 0, 6, 5, 1, 2]),
+    (4, 3, &[0, 1, 2, 3, 4, 5, 6, 7, 8, 9, 10, 11]),
+    (4, 3, &[11, 10, 9, 8, 7, 6, 5, 4, 3, 2, 1, 0]),
+    (4, 3, &[1, 3, 9, 5, 7, 8, 10, 6, 2, 0, 11, 4]),
+    (4, 3, &[4, 1, 2, 5, 0, 11, 3, 9, 6, 8, 10, 7]),
+    (4, 3, &[6, 4, 8, 5, 2, 11, 9, 7, 10, 1, 3, 0]),
+    (
         4,
         4,
         &[0, 1, 2, 3, 4, 5, 6, 7, 8, 9, 10, 11, 12, 13, 14, 15],
-    )?;
-    show(
-        rt,
+    ),
+    (
         4,
         4,
         &[15, 14, 13, 12, 11, 10, 9, 8, 7, 6, 5, 4, 3, 2, 1, 0],
-    )?;
-    show(
-        rt,
+    ),
+    (
         4,
         4,
         &[10, 7, 14, 15, 2, 12, 11, 6, 3, 13, 0, 9, 5, 1, 8, 4],
-    )?;
-    show(
-        rt,
+    ),
+    (
         4,
         4,
         &[3, 5, 6, 8, 2, 0, 9, 13, 4, 10, 11, 12, 7, 14, 1, 15],
-    )?;
-    show(
-        rt,
+    ),
+    (
         4,
         4,
         &[14, 1, 6, 7, 11, 9, 12, 4, 10, 15, 13, 2, 5, 8, 3, 0],
-    )
-}
+    ),
+];
 
 // Boards with a fault of each kind.
-fn faulty(rt: &impl Print) -> io::Result<()> {
-    show(rt, 1, 2, &[0, 1])?;
-    show(rt, 0, 0, &[])?;
-    show(
-        rt,
+const FAULTY: [(u32, u32, &[u8]); 21] = [
+    (1, 2, &[0, 1]),
+    (0, 0, &[]),
+    (
         5,
         4,
         &[
             0, 1, 2, 3, 4, 5, 6, 7, 8, 9, 10, 11, 12, 13, 14, 15, 16, 17, 18, 19,
         ],
-    )?;
-    show(rt, 2, 5, &[0, 1, 2, 3, 4, 5, 6, 7, 8, 9])?;
-    show(rt, 258, 2, &[0, 1, 2, 3])?;
-    show(rt, 4, 4294967295, &[0])?;
-    show(rt, 2, 2, &[0, 1, 2])?;
-    show(rt, 3, 3, &[0, 1, 2, 3, 4, 5, 6, 7, 8, 9])?;
-    show(
-        rt,
-        4,
-        4,
-        &[0, 1, 2, 3, 4, 5, 6, 7, 8, 9, 10, 11, 12, 13, 14],
-    )?;
-    show(rt, 4, 2, &[])?;
-    show(rt, 2, 2, &[0, 1, 1, 4])?;
-    show(rt, 2, 2, &[4, 4, 4, 4])?;
-    show(rt, 2, 3, &[0, 1, 2, 3, 4, 6])?;
-    show(rt, 3, 2, &[0, 255, 2, 3, 6, 5])?;
-    show(
-        rt,
+    ),
+    (2, 5, &[0, 1, 2, 3, 4, 5, 6, 7, 8, 9]),
+    (258, 2, &[0, 1, 2, 3]),
+    (4, 4294967295, &[0]),
+    (2, 2, &[0, 1, 2]),
+    (3, 3, &[0, 1, 2, 3, 4, 5, 6, 7, 8, 9]),
+    (4, 4, &[0, 1, 2, 3, 4, 5, 6, 7, 8, 9, 10, 11, 12, 13, 14]),
+    (4, 2, &[]),
+    (2, 2, &[0, 1, 1, 4]),
+    (2, 2, &[4, 4, 4, 4]),
+    (2, 3, &[0, 1, 2, 3, 4, 6]),
+    (3, 2, &[0, 255, 2, 3, 6, 5]),
+    (
         4,
         4,
         &[0, 0, 2, 3, 4, 5, 6, 7, 8, 9, 10, 11, 12, 13, 14, 16],
-    )?;
-    show(rt, 2, 2, &[0, 1, 1, 3])?;
-    show(rt, 2, 2, &[3, 3, 3, 3])?;
-    show(rt, 2, 4, &[7, 6, 5, 4, 3, 2, 1, 7])?;
-    show(rt, 4, 2, &[1, 2, 3, 4, 5, 6, 7, 1])?;
-    show(
-        rt,
-        4,
-        4,
-        &[0, 1, 2, 3, 4, 5, 6, 7, 8, 9, 10, 11, 12, 13, 14, 0],
-    )?;
-    show(rt, 3, 4, &[11, 10, 9, 8, 7, 6, 7, 11, 0, 0, 1, 2])
-}
+    ),
+    (2, 2, &[0, 1, 1, 3]),
+    (2, 2, &[3, 3, 3, 3]),
+    (2, 4, &[7, 6, 5, 4, 3, 2, 1, 7]),
+    (4, 2, &[1, 2, 3, 4, 5, 6, 7, 1]),
+    (4, 4, &[0, 1, 2, 3, 4, 5, 6, 7, 8, 9, 10, 11, 12, 13, 14, 0]),
+    (3, 4, &[11, 10, 9, 8, 7, 6, 7, 11, 0, 0, 1, 2]),
+];
 
 fn main(rt: HostRuntime) -> io::Result<()> {
-    two_wide(&rt)?;
-    three_wide(&rt)?;
-    four_wide(&rt)?;
-    faulty(&rt)
+    for (width, height, cells) in SOUND {
+        show(&rt, width, height, cells)?;
+    }
+    for (width, height, cells) in FAULTY {
+        show(&rt, width, height, cells)?;
+    }
+    Ok(())
 }

@@ -12,6 +12,7 @@ use std::io;
 use std::io::Read;
 
 // Reads until the buffer is full or the input ends, and says how many bytes now stand at its start.
+// Of a shorter input `read_exact` doesn't say how much it read, and `read_to_end` needs the heap.
 fn read_full(input: &mut impl Read, buffer: &mut [u8]) -> io::Result<usize>
     ensures { IfOk result (λ n. n ≤ length buffer.new) }
 {
@@ -30,6 +31,6 @@ fn main(rt: HostRuntime) -> io::Result<()> {
     let mut text = [0u8; 257];
     let n = read_full(&mut rt.stdin(), &mut text)?;
     let mut line = [0u8; 160];
-    let length = answer_line(&text[..n], &mut line);
+    let length = answer_line(&text[..n], &mut line).unwrap();
     rt.write_all(&line[..length])
 }

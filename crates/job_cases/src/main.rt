@@ -5,8 +5,6 @@
 
 #![tactic(auto)]
 
-ghost use Rattle.std.specs.Prelude.{◌≤◌};
-
 use jobline::answer::answer_line;
 use std::io;
 use std::io::{ErrorKind, Read};
@@ -17,7 +15,7 @@ fn answer_next(rt: &impl Print, input: &mut impl Read) -> io::Result<bool> {
     if !read_full(input, &mut head)? {
         return Ok(false);
     }
-    let length = number(head[0]) + 256 * number(head[1]);
+    let length = usize::from(u16::from_le_bytes(head));
     if length > 512 {
         return Ok(false);
     }
@@ -31,8 +29,8 @@ fn answer_text(rt: &impl Print, input: &mut impl Read, text: &mut [u8]) -> io::R
         return Ok(false);
     }
     let mut line = [0u8; 160];
-    let k = answer_line(text, &mut line);
-    rt.write_all(&line[..k])?;
+    let length = answer_line(text, &mut line).unwrap();
+    rt.write_all(&line[..length])?;
     Ok(true)
 }
 
@@ -43,12 +41,6 @@ fn read_full(input: &mut impl Read, buffer: &mut [u8]) -> io::Result<bool> {
         Err(e) if e.kind() == ErrorKind::UnexpectedEof => Ok(false),
         Err(e) => Err(e),
     }
-}
-
-fn number(x: u8) -> usize
-    ensures { result ≤ 255 }
-{
-    x as usize
 }
 
 fn main(rt: HostRuntime) -> io::Result<()> {

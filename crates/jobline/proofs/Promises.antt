@@ -6,17 +6,16 @@ use mathlib.Core.Path.{◌≡◌, refl, sym, ap, ◌∙◌}
 use mathlib.Core.Bool.{Bool, true, false, cond}
 use mathlib.Core.Logic.{◌↔◌}
 use mathlib.Core.List.{List, [], ◌∷◌, ◌++◌}
-use mathlib.Core.Option.{Option, none, some}
 use native.Mathlib.Omega.{arith}
 use lib.ListN.{length, get_or, take, drop, length-append}
+use Rattle.std.specs.Prelude.{Option, None, Some}
 use Rattle.jobline.specs.Numeral.{Digits, value_of}
 use Rattle.jobline.specs.Grammar.{Job, Spells}
 use Rattle.jobline.specs.Scan.{read_job}
-use Rattle.jobline.specs.Held.{Answers, cells_of}
+use Rattle.jobline.specs.Held.{Reading, Answers, cells_of}
 use Rattle.jobline.specs.Line.{decimal}
 use Rattle.jobline.specs.Put.{LineAnswered, room_for}
 use Rattle.jobline.specs.Answer.{answer_to}
-use Rattle.jobline.specs.declared.read.Reading.{Reading}
 use Rattle.jobline.proofs.theory.Stores.{take-stored}
 use Rattle.jobline.proofs.theory.Sound.{sound}
 use Rattle.jobline.proofs.theory.Complete.{complete}
@@ -24,26 +23,39 @@ use Rattle.jobline.proofs.theory.Decimal.{decimal-digits, decimal-small, decimal
 use Rattle.jobline.proofs.theory.Short.{line-short}
 
 -- a text of the grammar is read to its numbers, and nothing else is read
-pub read_exactly : (text : List ℕ) (job : Job) → (read_job text ≡ some job) ↔ Spells text job
+pub read_exactly : (text : List ℕ) (job : Job) → (read_job text ≡ Some job) ↔ Spells text job
 read_exactly text job = (sound text job, complete text job)
 
 -- any other text is refused
-pub refused_exactly : (text : List ℕ) → (read_job text ≡ none) ↔ ((job : Job) → Spells text job → ⊥)
+pub refused_exactly : (text : List ℕ) → (read_job text ≡ None) ↔ ((job : Job) → Spells text job → ⊥)
 refused_exactly text = (never, go (read_job text) refl)
   where
-    never : read_job text ≡ none → (job : Job) → Spells text job → ⊥
-    never e job s = let f = complete text job s in let z : ◌≡◌ {A = ℕ} 0 1 = cc in omega arith
+    never : read_job text ≡ None → (job : Job) → Spells text job → ⊥
+    never e job s = let f = complete text job s in cc
 
-    go : (r : Option Job) → read_job text ≡ r → ((job : Job) → Spells text job → ⊥) → read_job text ≡ none
-    go none e h = e
-    go (some job) e h = absurd (h job (sound text job e))
+    go : (r : Option Job) → read_job text ≡ r → ((job : Job) → Spells text job → ⊥) → read_job text ≡ None
+    go None e h = e
+    go (Some job) e h = absurd (h job (sound text job e))
+
+-- the grammar leaves one reader only: whatever reads it exactly reads as `read_job` does
+pub one-reader : (f : List ℕ → Option Job) → ((text : List ℕ) (job : Job) → (f text ≡ Some job) ↔ Spells text job)
+    → (text : List ℕ) → f text ≡ read_job text
+one-reader f exact text = go (read_job text) refl
+  where
+    none : read_job text ≡ None → (read : Option Job) → f text ≡ read → f text ≡ None
+    none e None is = is
+    none e (Some job) is = let c = complete text job ((exact text job).0 is) in cc
+
+    go : (read : Option Job) → read_job text ≡ read → f text ≡ read_job text
+    go None e = none e (f text) refl ∙ sym e
+    go (Some job) e = (exact text job).1 (sound text job e) ∙ sym e
 
 pub one-job : (text : List ℕ) (a b : Job) → Spells text a → Spells text b → a ≡ b
 one-job text a b s t = let e = complete text a s in let f = complete text b t in cc
 
 -- the job's cells are what stands in front of a lent array of 32
 pub cells_in_front : (text : List ℕ) (job : Job) (old : List ℕ) → Spells text job → length old ≡ 32
-    → take (length job.cells) (cells_of (some job) old) ≡ job.cells
+    → take (length job.cells) (cells_of (Some job) old) ≡ job.cells
 cells_in_front text job old s h = take-stored old job.cells (omega (arith, s.count))
 
 -- a number in an answer: digits worth the number, of which the first is no 0, unless 0 is the whole
@@ -71,19 +83,20 @@ pub answer-settled : (read : Option Job) (old : List ℕ) (a b : Reading) (x y :
     → (a ≡ b) × (x ≡ y)
 answer-settled read old a b x y s t = (s.numbers ∙ sym t.numbers, s.cells ∙ sym t.cells)
 
-pub line-settled : (text old : List ℕ) (a b : ℕ) (x y : List ℕ) → LineAnswered text old a x → LineAnswered text old b y
+pub line-settled : (text old : List ℕ) (a b : Option ℕ) (x y : List ℕ) → LineAnswered text old a x → LineAnswered text old b y
     → (a ≡ b) × (x ≡ y)
 line-settled text old a b x y s t = (s.count ∙ sym t.count, s.buffer ∙ sym t.buffer)
 
 -- a line that was put is within the buffer, which stays as long as it was
-pub line-within : (text old : List ℕ) (r : ℕ) (new : List ℕ) → LineAnswered text old r new → r ≤ length new
+pub line-within : (text old : List ℕ) (r : ℕ) (new : List ℕ) → LineAnswered text old (Some r) new → r ≤ length new
 line-within text old r new a = go (room_for text old) refl
   where
     go : (t : Bool) → room_for text old ≡ t → r ≤ length new
     go true e =
-        let counted : r ≡ length text = a.count ∙ ap (λ (t : Bool). cond t (length text) 0) e in
+        let counted : Some r ≡ Some (length text) = a.count ∙ ap (λ (t : Bool). cond t (Some (length text)) None) e in
+        let size : r ≡ length text = cc in
         let is : new ≡ text ++ drop (length text) old = a.buffer ∙ ap (λ (t : Bool). cond t (text ++ drop (length text) old) old) e in
         omega (arith, ap length is, length-append text (drop (length text) old))
     go false e =
-        let counted : r ≡ 0 = a.count ∙ ap (λ (t : Bool). cond t (length text) 0) e in
-        omega arith
+        let none : Some r ≡ None = a.count ∙ ap (λ (t : Bool). cond t (Some (length text)) None) e in
+        absurd cc

@@ -1,9 +1,7 @@
--- About the definitions alone, lowest first: digits, places, fields and cells of a text, and with them the two halves of the reader's
+-- About the definitions alone, lowest first: digits and steps of reading a text, and with them the two halves of the reader's
 -- promise; then stores, numbers in decimal and the lines of answers; worked lines. Assumes nothing.
 pub mod Runs
-pub mod Places
-pub mod Fields
-pub mod Cells
+pub mod Steps
 pub mod Sound
 pub mod Complete
 pub mod Stores

@@ -1,6 +1,7 @@
 -- The line of an answer: a plan's or a refusal's, its numbers in decimal without leading zeros, its fields as in the line of a job.
 -- What becomes of a buffer that a line is put into is in `Put`. Assumes nothing.
-use Rattle.std.specs.Prelude.{ℕ, zero, suc, ◌+◌, ◌/◌, ◌%◌, cond, List, [], ◌∷◌, ◌++◌, map, ltb, length, get_or}
+use Rattle.std.specs.Prelude.{ℕ, zero, suc, ◌+◌, ◌/◌, ◌%◌, nat_lt, if◌then◌else◌, List, [], ◌∷◌, ◌++◌, map, length}
+use Rattle.std.specs.Prelude.{slice_index_or, codes}
 use Rattle.jobline.specs.Numeral.{space}
 use Rattle.jobline.specs.Grammar.{line}
 
@@ -9,7 +10,7 @@ unfoldable pub digits_of : ℕ → ℕ → List ℕ
 digits_of zero n = (48 + n) ∷ []
 digits_of (suc k) n =
     let front = digits_of k (n / 10) in
-    cond (ltb n 10) ((48 + n) ∷ []) (front ++ (48 + n % 10) ∷ [])
+    if nat_lt n 10 then (48 + n) ∷ [] else front ++ (48 + n % 10) ∷ []
 
 -- n in decimal; n / 10 is below n where n is not 0, so n times are enough
 unfoldable pub decimal : ℕ → List ℕ
@@ -17,7 +18,7 @@ decimal n = digits_of n n
 
 -- U, L, R, D for the moves 0, 1, 2, 3; a byte that is no move, which no plan has, is shown as a question mark
 abbrev pub letter : ℕ → ℕ
-letter m = get_or (85 ∷ 76 ∷ 82 ∷ 68 ∷ []) m 63
+letter m = slice_index_or (codes "ULRD") m 63
 
 -- the moves' letters; a single dash where there are none
 abbrev pub letters : List ℕ → List ℕ
@@ -28,16 +29,16 @@ letters (m ∷ ms) = letter m ∷ map letter ms
 abbrev pub opening : List ℕ → ℕ → ℕ → List ℕ
 opening word a b = word ++ (space ∷ decimal a) ++ (space ∷ decimal b)
 
--- plan, length, visits, letters; the word in bytes
+-- plan, length, visits, letters
 abbrev pub plan_word : List ℕ
-plan_word = 112 ∷ 108 ∷ 97 ∷ 110 ∷ []
+plan_word = codes "plan"
 
 unfoldable pub plan_line : ℕ → List ℕ → List ℕ
 plan_line visits moves = line plan_word (decimal (length moves) ∷ decimal visits ∷ letters moves ∷ [])
 
--- refused, number, cell, visits; the word in bytes
+-- refused, number, cell, visits
 abbrev pub refused_word : List ℕ
-refused_word = 114 ∷ 101 ∷ 102 ∷ 117 ∷ 115 ∷ 101 ∷ 100 ∷ []
+refused_word = codes "refused"
 
 unfoldable pub refused_line : ℕ → ℕ → ℕ → List ℕ
 refused_line number cell visits = line refused_word (decimal number ∷ decimal cell ∷ decimal visits ∷ [])

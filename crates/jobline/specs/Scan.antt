@@ -1,114 +1,106 @@
--- Reading the text of a job from the left: what the reader finds at each place. `read_job` is the whole; that it reads exactly the
--- lines of `Grammar` is proved in proofs/. Assumes nothing.
-use Rattle.std.specs.Prelude.{ℕ, zero, suc, ◌+◌, ◌≤◌}
-use Rattle.std.specs.Prelude.{Bool, true, false, cond, ◌&&◌, List, [], ◌∷◌, leb, eqb, length, get_or, take, drop, ℤ, pos, neg_ℤ}
-use Rattle.std.proofs.Math.Option.{Option, none, some}
-use Rattle.std.proofs.Math.Seq.{slice}
-use Rattle.jobline.specs.Numeral.{space, line_feed, minus_sign, Digits, value_of}
+-- Reading the text of a job from the left: what stands at the front of a text, and the text behind it. `read_job` is the whole; that it
+-- reads exactly the lines of `Grammar` is proved in proofs/. Assumes nothing.
+use Rattle.std.specs.Prelude.{ℕ, zero, suc, ◌==◌, nat_le, if◌then◌else◌, Bool, false, ◌&&◌, List, [], ◌∷◌, length, take, drop}
+use Rattle.std.specs.Prelude.{ℤ, pos, neg_ℤ, Option, None, Some, option_map, option_and_then}
+use Rattle.std.specs.List.{prefix_len}
+use Rattle.std.specs.Borrow.{Bor}
+use Rattle.jobline.specs.Numeral.{space, line_feed, minus_sign, value_of}
 use Rattle.jobline.specs.Grammar.{Job, job_of}
-use Rattle.jobline.specs.declared.read.NumberRead.{NumberRead}
-use Rattle.jobline.specs.declared.read.NumberRead.TheVariants.{Number, Bad}
 use Rattle.jobline.specs.declared.read.Numbers.{Numbers}
-use Rattle.jobline.specs.declared.read.HeadRead.{HeadRead}
-use Rattle.jobline.specs.declared.read.HeadRead.TheVariants.{Sound, Broken}
 
--- the byte at a place; 0, which the grammar does not have, past the end
-abbrev pub byte_at : List ℕ → ℕ → ℕ
-byte_at text at = get_or text at 0
+-- what was read at the front of a text, and the text behind it
+abbrev pub Read : Type 0 → Type 0
+Read A = Option (A × List ℕ)
 
-unfoldable pub is_digit : ℕ → Bool
-is_digit b = leb 48 b && leb b 57
+-- what a function of the code read
+abbrev pub read_view : {A : Type 0} → Option (A × Bor (List ℕ)) → Read A
+read_view read = option_map (λ r. (r.0, r.1.now)) read
+
+-- a step, and one behind it; none where either reads none
+infixl 10 ◌>>=◌
+abbrev pub ◌>>=◌ : {A B : Type 0} → Option A → (A → Option B) → Option B
+read >>= go = option_and_then go read
+
+-- the text behind a byte at the front
+abbrev pub behind : ℕ → List ℕ → Option (List ℕ)
+behind byte [] = None
+behind byte (first ∷ rest) = if first == byte then Some rest else None
+
+abbrev pub is_digit : ℕ → Bool
+is_digit b = nat_le 48 b && nat_le b 57
 
 -- how many digits a text begins with
-unfoldable pub run : List ℕ → ℕ
-run [] = 0
-run (b ∷ s) = cond (is_digit b) (suc (run s)) 0
+abbrev pub run : List ℕ → ℕ
+run text = prefix_len is_digit text
 
--- from one place to another there are at most nine bytes, all digits
-pub record FewDigits (text : List ℕ) (from to : ℕ) : Type 0 where
-  pub ordered : from ≤ to
-  pub inside : to ≤ length text
-  pub few : to ≤ from + 9
-  pub digits : Digits (slice from to text)
+-- what digits are worth, if there are any
+abbrev pub value_if_any : List ℕ → Option ℕ
+value_if_any digits = if nat_le 1 (length digits) then Some (value_of digits) else None
 
--- the number at a place: all digits there, of which there are 1 to 9, worth at most `most`
-unfoldable pub number_at : Bool → ℕ → List ℕ → ℕ → NumberRead
-number_at minus most text at =
-    let rest = drop at text in
-    let k = run rest in
-    let v = value_of (take k rest) in
-    cond (leb 1 k && (leb k 9 && leb v most)) (Number v minus (at + k)) Bad
+-- a number: all digits at the front, of which there are 1 to 9, worth at most `most`
+unfoldable pub read_number : ℕ → List ℕ → Read ℕ
+read_number most text =
+    let k = run text in
+    let v = value_of (take k text) in
+    if nat_le 1 k && (nat_le k 9 && nat_le v most) then Some (v, drop k text) else None
 
--- a minus stands there, and may
-unfoldable pub minus_at : Bool → List ℕ → ℕ → Bool
-minus_at signed text at = signed && eqb (byte_at text at) minus_sign
-
--- the number at a place, behind a minus where one may stand
-unfoldable pub signed_at : Bool → ℕ → List ℕ → ℕ → NumberRead
-signed_at signed most text at =
-    cond (minus_at signed text at) (number_at true most text (at + 1)) (number_at false most text at)
-
--- the field at a place: one space and then the number
-unfoldable pub field_at : Bool → ℕ → List ℕ → ℕ → NumberRead
-field_at signed most text at = cond (eqb (byte_at text at) space) (signed_at signed most text (at + 1)) Bad
-
--- the number with its sign
-abbrev pub signed_value : Bool → ℕ → ℤ
-signed_value true n = neg_ℤ (pos n)
-signed_value false n = pos n
-
--- go on behind a number
-abbrev pub behind : {A : Type 0} → A → NumberRead → (ℕ → Bool → ℕ → A) → A
-behind stop Bad go = stop
-behind stop (Number v minus next) go = go v minus next
+-- a field: one space and then the number
+unfoldable pub read_field : ℕ → List ℕ → Read ℕ
+read_field most text = do
+  digits ← behind space text
+  read_number most digits
 
 -- the largest number of nine digits
 abbrev pub nines : ℕ
 nines = 999999999
 
+-- a number of at most nine digits, as it is where no minus stood before it and else as its negative
+abbrev pub plain : Read ℕ → Read ℤ
+plain read = option_map (λ r. (pos r.0, r.1)) read
+
+abbrev pub negated : Read ℕ → Read ℤ
+negated read = option_map (λ r. (neg_ℤ (pos r.0), r.1)) read
+
+abbrev pub signed : List ℕ → Option (List ℕ) → Read ℤ
+signed text None = plain (read_number nines text)
+signed text (Some digits) = negated (read_number nines digits)
+
+-- the field of the ceiling: one space, and then the number behind a minus where one stands
+unfoldable pub read_ceiling : List ℕ → Read ℤ
+read_ceiling text = do
+  number ← behind space text
+  signed number (behind minus_sign number)
+
 -- the six numbers before the cells
-unfoldable pub head_of : List ℕ → HeadRead
-head_of text =
-    behind Broken (number_at false 255 text 0) λ width _ at_height.
-    behind Broken (field_at false 255 text at_height) λ height _ at_ceiling.
-    behind Broken (field_at true nines text at_ceiling) λ size minus at_budget.
-    behind Broken (field_at false nines text at_budget) λ budget _ at_p.
-    behind Broken (field_at false 255 text at_p) λ p _ at_q.
-    behind Broken (field_at false 255 text at_q) λ q _ next.
-    Sound
-    (record {
-      width = width;
-      height = height;
-      ceiling = signed_value minus size;
-      budget = budget;
-      p = p;
-      q = q;
-    })
-    next
+unfoldable pub read_head : List ℕ → Read Numbers
+read_head text = do
+  width ← read_number 255 text
+  height ← read_field 255 width.1
+  ceiling ← read_ceiling height.1
+  budget ← read_field nines ceiling.1
+  p ← read_field 255 budget.1
+  q ← read_field 255 p.1
+  Some (record { width = width.0; height = height.0; ceiling = ceiling.0; budget = budget.0; p = p.0; q = q.0 }, q.1)
 
--- the line feed at a place is the text's last byte
-unfoldable pub ends_at : List ℕ → ℕ → Bool
-ends_at text at = eqb (byte_at text at) line_feed && eqb (at + 1) (length text)
+-- the text is the line feed alone
+abbrev pub ends : List ℕ → Bool
+ends [] = false
+ends (b ∷ []) = b == line_feed
+ends (b ∷ c ∷ rest) = false
 
-abbrev pub prepend : ℕ → Option (List ℕ) → Option (List ℕ)
-prepend n none = none
-prepend n (some ns) = some (n ∷ ns)
-
--- the cells from a place to the end of the text, of which there may be k
-unfoldable pub cells_at : ℕ → List ℕ → ℕ → Option (List ℕ)
-cells_at zero text at = cond (ends_at text at) (some []) none
-cells_at (suc k) text at =
-    cond (ends_at text at) (some []) (behind none (field_at false 255 text at) λ v _ next. prepend v (cells_at k text next))
-
--- a job where its cells were read behind its numbers, and none where either was not
-abbrev pub with_cells : Numbers → Option (List ℕ) → Option Job
-with_cells numbers none = none
-with_cells numbers (some cells) = some (job_of numbers cells)
-
-abbrev pub behind_head : List ℕ → HeadRead → Option Job
-behind_head text Broken = none
-behind_head text (Sound numbers next) = with_cells numbers (cells_at 32 text next)
+-- the cells to the end of the text, of which there may be k
+unfoldable pub read_cells : ℕ → List ℕ → Option (List ℕ)
+read_cells zero text = if ends text then Some [] else None
+read_cells (suc k) text =
+    if ends text then Some [] else (do
+      cell ← read_field 255 text
+      cells ← read_cells k cell.1
+      Some (cell.0 ∷ cells))
 
 -- the job that a text spells, or none
 unfoldable pub read_job : List ℕ → Option Job
-read_job text = cond (leb (length text) 256) (behind_head text (head_of text)) none
+read_job text =
+    if nat_le (length text) 256 then (do
+      head ← read_head text
+      cells ← read_cells 32 head.1
+      Some (job_of head.0 cells)) else None

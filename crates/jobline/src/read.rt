@@ -1,14 +1,15 @@
-// Reads the text of a job. A number is all digits that stand at a place; a field is one space and then a number.
-// The fields are read from the left, each from the place behind the one before; the cells go to the caller only when all is read.
-ghost use Rattle.std.specs.Prelude.{◌≡◌, ◌+◌, ◌≤◌, drop};
-ghost use Rattle.std.proofs.Math.Seq.{slice};
-ghost use Rattle.jobline.specs.Numeral.{value_of};
-ghost use Rattle.jobline.specs.Scan.{byte_at, run, FewDigits, number_at, minus_at, field_at, signed_value};
-ghost use Rattle.jobline.specs.Scan.{nines, head_of, ends_at, cells_at, read_job};
+// Reads the text of a job from the left: each function reads the front of a text, and gives what it read and the text behind it.
+// A number is all digits that stand at the front; a field is one space and then a number. The cells go to the caller only when all is read.
+ghost use Rattle.std.specs.Prelude.{◌≡◌, ◌≤◌, length, IfSome, option_copied};
+ghost use Rattle.jobline.specs.Numeral.{Digits};
+ghost use Rattle.jobline.specs.Scan.{behind, run, value_if_any, ends, read_view};
+ghost use Rattle.jobline.specs.Scan.{read_number, read_field, read_ceiling, read_head, read_cells, read_job};
 ghost use Rattle.jobline.specs.Held.{Counted, Answers};
 
+use board::numbered::Numbered;
+
 // The six numbers of a job before its cells.
-#[derive(Clone, Copy)]
+#[derive(Clone, Copy, Debug, PartialEq, Eq)]
 pub struct Numbers {
     pub width: u32,
     pub height: u32,
@@ -18,159 +19,109 @@ pub struct Numbers {
     pub q: u32,
 }
 
+// 12: the text is not of the grammar.
+#[derive(Clone, Copy, Debug, PartialEq, Eq)]
+pub struct Malformed;
+
+impl Numbered for Malformed {
+    ghost number_of = { λ why. 12 };
+
+    ghost place_of = { λ why. 0 };
+
+    fn number(self) -> u32 {
+        12
+    }
+
+    fn place(self) -> usize {
+        0
+    }
+}
+
 // Nine nines: the largest number of nine digits.
 const NINES: u32 = 999_999_999;
 
-// What a text is read to.
-#[derive(Clone, Copy)]
-pub enum Reading {
-    // the numbers before the cells, and how many cells there are
-    Job(Numbers, usize),
-    // 12: the text is not of the grammar
-    Malformed,
-}
-
-// What stands at a place where a number is wanted.
-#[derive(Clone, Copy)]
-enum NumberRead {
-    // its value without the sign, whether a minus stands before it, and the place behind it
-    Number(u32, bool, usize),
-    Bad,
-}
-
-// What a text begins with.
-#[derive(Clone, Copy)]
-enum HeadRead {
-    // the numbers before the cells, and the place behind them
-    Sound(Numbers, usize),
-    Broken,
-}
-
-// How many cells a text ends with.
-#[derive(Clone, Copy)]
-enum CellCount {
-    Cells(usize),
-    Uncounted,
-}
-
-// The byte at a place, 0 past the end.
-fn byte_at(text: &[u8], at: usize) -> u8
-    ensures { result ≡ byte_at text.now at }
+// What stands behind a byte at the front.
+fn behind(text: &[u8], byte: u8) -> Option<&[u8]>
+    ensures { option_copied result ≡ behind byte text.now }
 {
-    if at < text.len() { text[at] } else { 0 }
+    match text {
+        [first, rest @ ..] if *first == byte => Some(rest),
+        _ => None,
+    }
 }
 
-// The place behind all digits that stand at a place.
-fn digits_end(text: &[u8], at: usize) -> usize
-    ensures { result ≡ at + run (drop at text.now) }
+// How many digits stand at the front.
+fn digit_count(text: &[u8]) -> usize
+    ensures value { result ≡ run text.now }
+    ensures within { result ≤ length text.now }
 {
-    let mut i = at;
-    while i < text.len() {
-        let b = text[i];
-        if b < 48 {
-            return i;
-        }
-        if 57 < b {
-            return i;
-        }
-        i += 1;
-    }
-    i
+    text.iter().take_while(|b| b.is_ascii_digit()).count()
 }
 
-// What at most nine digits are worth.
-fn value_between(text: &[u8], from: usize, to: usize) -> u32
-    requires { FewDigits text.now from to }
-    ensures { result ≡ value_of (slice from to text.now) }
+// What at most nine digits are worth, if there are any.
+fn value_of(digits: &[u8]) -> Option<u32>
+    requires digits { Digits digits.now }
+    requires few { length digits.now ≤ 9 }
+    ensures { result ≡ value_if_any digits.now }
 {
-    let mut value: u32 = 0;
-    let mut i = from;
-    while i < to {
-        value = value * 10 + (text[i] - 48) as u32;
-        i += 1;
-    }
-    value
+    str::from_utf8(digits).ok()?.parse().ok()
 }
 
-// The number at a place, of 1 to 9 digits and at most `most`.
-fn number_at(text: &[u8], at: usize, most: u32, minus: bool) -> NumberRead
-    ensures { result ≡ number_at minus most text.now at }
+// A number of 1 to 9 digits and at most `most`.
+#[tactic(auto, unfolding(crate::specs::Scan::read_number))]
+fn read_number(text: &[u8], most: u32) -> Option<(u32, &[u8])>
+    ensures value { read_view result ≡ read_number most text.now }
+    ensures small { IfSome result (λ read. read.0 ≤ most) }
 {
-    let next = digits_end(text, at);
-    if next <= at {
-        return NumberRead::Bad;
+    let (digits, rest) = text.split_at(digit_count(text));
+    if 9 < digits.len() {
+        return None;
     }
-    if 9 < next - at {
-        return NumberRead::Bad;
-    }
-    let value = value_between(text, at, next);
+    let value = value_of(digits)?;
     if most < value {
-        return NumberRead::Bad;
+        return None;
     }
-    NumberRead::Number(value, minus, next)
+    Some((value, rest))
 }
 
-// A minus stands at a place where one may.
-fn minus_at(text: &[u8], at: usize, signed: bool) -> bool
-    ensures { result ≡ minus_at signed text.now at }
+// A space, and a number of at most `most`.
+#[tactic(auto, unfolding(crate::specs::Scan::read_field))]
+fn read_field(text: &[u8], most: u32) -> Option<(u32, &[u8])>
+    ensures value { read_view result ≡ read_field most text.now }
+    ensures small { IfSome result (λ read. read.0 ≤ most) }
 {
-    if signed {
-        byte_at(text, at) == 45
-    } else {
-        false
-    }
+    read_number(behind(text, b' ')?, most)
 }
 
-// The field at a place: a space, and a number of at most `most`; a minus before it only where `signed`.
-fn field_at(text: &[u8], at: usize, most: u32, signed: bool) -> NumberRead
-    ensures { result ≡ field_at signed most text.now at }
+// A space, and a number of nine digits at most, with or without a minus.
+#[tactic(auto, unfolding(crate::specs::Scan::read_ceiling))]
+fn read_ceiling(text: &[u8]) -> Option<(i32, &[u8])>
+    ensures { read_view result ≡ read_ceiling text.now }
 {
-    let b = byte_at(text, at);
-    if b != 32 {
-        return NumberRead::Bad;
-    }
-    let start = at + 1;
-    if minus_at(text, start, signed) {
-        return number_at(text, start + 1, most, true);
-    }
-    number_at(text, start, most, false)
-}
-
-// A number of at most nine digits with its sign.
-fn with_sign(value: u32, minus: bool) -> i32
-    requires { value ≤ nines }
-    ensures { result ≡ signed_value minus value }
-{
-    if minus {
-        0 - value as i32
-    } else {
-        value as i32
+    let text = behind(text, b' ')?;
+    match behind(text, b'-') {
+        Some(text) => {
+            let (size, rest) = read_number(text, NINES)?;
+            Some((-(size as i32), rest))
+        }
+        None => {
+            let (size, rest) = read_number(text, NINES)?;
+            Some((size as i32, rest))
+        }
     }
 }
 
 // The six numbers before the cells.
-fn head_of(text: &[u8]) -> HeadRead
-    ensures { result ≡ head_of text.now }
+#[tactic(auto, unfolding(crate::specs::Scan::read_head))]
+fn read_head(text: &[u8]) -> Option<(Numbers, &[u8])>
+    ensures { read_view result ≡ read_head text.now }
 {
-    let NumberRead::Number(width, _, at_height) = number_at(text, 0, 255, false) else {
-        return HeadRead::Broken;
-    };
-    let NumberRead::Number(height, _, at_ceiling) = field_at(text, at_height, 255, false) else {
-        return HeadRead::Broken;
-    };
-    let NumberRead::Number(size, minus, at_budget) = field_at(text, at_ceiling, NINES, true) else {
-        return HeadRead::Broken;
-    };
-    let NumberRead::Number(budget, _, at_p) = field_at(text, at_budget, NINES, false) else {
-        return HeadRead::Broken;
-    };
-    let NumberRead::Number(p, _, at_q) = field_at(text, at_p, 255, false) else {
-        return HeadRead::Broken;
-    };
-    let NumberRead::Number(q, _, next) = field_at(text, at_q, 255, false) else {
-        return HeadRead::Broken;
-    };
-    let ceiling = with_sign(size, minus);
+    let (width, rest) = read_number(text, 255)?;
+    let (height, rest) = read_field(rest, 255)?;
+    let (ceiling, rest) = read_ceiling(rest)?;
+    let (budget, rest) = read_field(rest, NINES)?;
+    let (p, rest) = read_field(rest, 255)?;
+    let (q, rest) = read_field(rest, 255)?;
     let numbers = Numbers {
         width,
         height,
@@ -179,56 +130,45 @@ fn head_of(text: &[u8]) -> HeadRead
         p,
         q,
     };
-    HeadRead::Sound(numbers, next)
+    Some((numbers, rest))
 }
 
-// The text ends with the line feed at a place.
-fn ends_at(text: &[u8], at: usize) -> bool
-    ensures { result ≡ ends_at text.now at }
+// The text is a line feed and no more.
+fn ends(text: &[u8]) -> bool
+    ensures { result ≡ ends text.now }
 {
-    let b = byte_at(text, at);
-    if b != 10 {
-        return false;
-    }
-    at + 1 == text.len()
+    matches!(text, [b'\n'])
 }
 
-// Puts the cells from a place to the text's end into `cells`, and answers how many they are.
-fn cells_at(text: &[u8], from: usize, cells: &mut [u8; 32]) -> CellCount
-    ensures { Counted (cells_at 32 text.now from) cells.old result cells.new }
+// Puts the cells before the line feed that ends the text into the front of `cells`, and says how many they are.
+// They go by index: over `iter_mut().enumerate()` it isn't proved what the returns within the loop leave in `cells`.
+fn read_cells(text: &[u8], cells: &mut [u8; 32]) -> Option<usize>
+    ensures { Counted (read_cells 32 text.now) cells.old result cells.new }
 {
-    let mut at = from;
-    let mut count: usize = 0;
-    loop {
-        if ends_at(text, at) {
-            return CellCount::Cells(count);
+    let mut rest = text;
+    for count in 0..32 {
+        if ends(rest) {
+            return Some(count);
         }
-        if count == 32 {
-            return CellCount::Uncounted;
-        }
-        let NumberRead::Number(value, _, next) = field_at(text, at, 255, false) else {
-            return CellCount::Uncounted;
-        };
-        cells[count] = value as u8;
-        count += 1;
-        at = next;
+        let (cell, next) = read_field(rest, 255)?;
+        cells[count] = cell as u8;
+        rest = next;
     }
+    ends(rest).then_some(32)
 }
 
-// Reads a job: its numbers in the answer, its cells in front of `cells`. A text that is not of the grammar leaves `cells` as found.
-pub fn read_job(text: &[u8], cells: &mut [u8; 32]) -> Reading
+// Reads a job: its numbers and how many cells in the answer, the cells in front of `cells`. A text that is not of the grammar leaves
+// `cells` as found. The answer has a count and no slice of the cells, since `Answers` says what all 32 are afterwards.
+#[tactic(auto, unfolding(crate::specs::Scan::read_job))]
+pub fn read_job(text: &[u8], cells: &mut [u8; 32]) -> Result<(Numbers, usize), Malformed>
     ensures { Answers (read_job text.now) cells.old result cells.new }
 {
     if 256 < text.len() {
-        return Reading::Malformed;
+        return Err(Malformed);
     }
-    let HeadRead::Sound(numbers, next) = head_of(text) else {
-        return Reading::Malformed;
-    };
+    let (numbers, rest) = read_head(text).ok_or(Malformed)?;
     let mut kept = *cells;
-    let CellCount::Cells(count) = cells_at(text, next, &mut kept) else {
-        return Reading::Malformed;
-    };
+    let count = read_cells(rest, &mut kept).ok_or(Malformed)?;
     *cells = kept;
-    Reading::Job(numbers, count)
+    Ok((numbers, count))
 }

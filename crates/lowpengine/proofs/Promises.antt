@@ -9,6 +9,7 @@
 --     E6                 the reachability test, `r ≡ packed_reach width height b`: r % 256 is the number, r / 256 the cell
 --     E7                 the short call: what it promises of a plan's length
 -- Assumes nothing.
+use Rattle.std.specs.Prelude.{Result, Ok, Err}
 use Prim.Native.Nat.{ℕ, ◌+◌, ◌*◌, ◌/◌, ◌%◌, ◌^◌, ◌≤◌, ◌<◌, min}
 use mathlib.Core.Path.{◌≡◌, refl, sym, ap, subst, ◌∙◌}
 use mathlib.Core.Logic.{◌↔◌, ◌⊎◌, inl, inr}
@@ -20,8 +21,6 @@ use lib.ListN.{length, take, drop, replicate}
 use lib.Seq.{drop_at}
 use Rattle.board.specs.declared.Shape.{Shape}
 use Rattle.board.specs.declared.Fault.{Fault}
-use Rattle.board.specs.declared.Tested.{Tested}
-use Rattle.board.specs.declared.Tested.TheVariants.{Sound, Faulty}
 use Rattle.board.specs.Lists.{Solves}
 use Rattle.board.specs.Tests.{FirstToHold, NoneHolds}
 use Rattle.board.specs.Faults.{tested, fault_tests, fault_number, fault_cell}
@@ -30,8 +29,7 @@ use Rattle.board.proofs.Laws.{faulty_means, faulty-given, none-faulty, board-of,
 use Rattle.search.specs.Run.{rows_for}
 use Rattle.planner.specs.declared.Refusal.{Refusal}
 use Rattle.planner.specs.declared.Refusal.TheVariants.{NoPlan, OutOfVisits}
-use Rattle.planner.specs.declared.Answer.{Answer}
-use Rattle.planner.specs.declared.Answer.TheVariants.{Refused as Refusing}
+use Rattle.planner.specs.Answer.{Answer}
 use Rattle.planner.specs.Limits.{ceiling_of, limit_tests}
 use Rattle.planner.specs.Answer.{called, short_buffer}
 use Rattle.planner.specs.Short.{called_short}
@@ -46,13 +44,10 @@ use Rattle.planner.proofs.theory.Ways.{apart, Way, refused, ran, way}
 use Rattle.planner.proofs.theory.Lowest.{PastSeven}
 use Rattle.planner.proofs.theory.Lending.{lending, by_length}
 use Rattle.player.specs.declared.PlayRefusal.{PlayRefusal}
-use Rattle.player.specs.declared.Played.{Played}
-use Rattle.player.specs.declared.Played.TheVariants.{End, Refused}
+use Rattle.player.specs.Play.{Played}
 use Rattle.player.specs.Answers.{answer_number, refusal_place}
 use Rattle.player.proofs.Laws.{settled}
 use Rattle.records.specs.declared.PlanRefusal.{PlanRefusal}
-use Rattle.records.specs.declared.Written.{Written}
-use Rattle.records.specs.declared.Written.TheVariants.{Record, Refused as Unwritten}
 use Rattle.records.specs.Answers.{answer_number as written_number, refusal_number as unwritten_number, refusal_place as unwritten_place}
 use Rattle.records.specs.Record.{record_of}
 use Rattle.records.specs.Write.{Given, fields_of, write_tests, written}
@@ -80,14 +75,14 @@ pub play_fields : (a : Played) → (packed_play a % 256 ≡ answer_number a) × 
 play_fields a = (play_number-read a, play_detail_read a)
 
 -- the detail is 1 exactly if the list that was played ends at the goal, and the cell or place of a refusal
-pub goal-told : (goal : Bool) → packed_play (End goal) / 256 ≡ cond goal 1 0
-goal-told goal = play_detail_read (End goal)
+pub goal-told : (goal : Bool) → packed_play (Ok goal) / 256 ≡ cond goal 1 0
+goal-told goal = play_detail_read (Ok goal)
 
-pub place-told : (why : PlayRefusal) → refusal_place why < farthest → packed_play (Refused why) / 256 ≡ refusal_place why
-place-told why near = play_detail_read (Refused why) ∙ omega arith
+pub place-told : (why : PlayRefusal) → refusal_place why < farthest → packed_play (Err why) / 256 ≡ refusal_place why
+place-told why near = play_detail_read (Err why) ∙ omega arith
 
 -- of every answer of the record writer: its number, and the detail
-pub record_fields : (a : Written) → (packed_record a % 256 ≡ written_number a) × (packed_record a / 256 ≡ record_detail a)
+pub record_fields : (a : Result ℕ PlanRefusal) → (packed_record a % 256 ≡ written_number a) × (packed_record a / 256 ≡ record_detail a)
 record_fields a = (record_number-read a, record_detail_read a)
 
 -- ---- settled
@@ -181,7 +176,7 @@ module _ (c : Call) (bytes : AllBytes c.table) (r : ℕ) (moves' table' : List �
     where
       go : Way (in_numbers c) → number answer ≡ k → RefusedBy (in_numbers c) k (r / 256 % 256)
       go (refused {why} first w) e =
-          let is : answer ≡ Refusing why = ap (λ l. l.answer) w in
+          let is : answer ≡ Err why = ap (λ l. l.answer) w in
           record {
             why = why;
             first = first;
@@ -205,7 +200,7 @@ module _ (c : Call) (bytes : AllBytes c.table) (r : ℕ) (moves' table' : List �
       given-then e =
           let it = no_plan_by_number answer (sym fields.number_read ∙ e) in
           let count = sym (ap visits it.is) ∙ sym fields.visits-read in
-          (plan.no_plan_exactly (in_numbers c) (r / 2 ^ 32)).0 (it.is ∙ ap (λ v. Refusing (NoPlan v)) count)
+          (plan.no_plan_exactly (in_numbers c) (r / 2 ^ 32)).0 (it.is ∙ ap (λ v. Err (NoPlan v)) count)
 
   pub out-of-visits_exactly : (r % 256 ≡ 11) ↔ OutOf (in_numbers c) (r / 2 ^ 32)
   unfolding answer
@@ -215,7 +210,7 @@ module _ (c : Call) (bytes : AllBytes c.table) (r : ℕ) (moves' table' : List �
       given-then e =
           let it = spent_by_number answer (sym fields.number_read ∙ e) in
           let count = sym (ap visits it.is) ∙ sym fields.visits-read in
-          (plan.out-of-visits_exactly (in_numbers c) (r / 2 ^ 32)).0 (it.is ∙ ap (λ v. Refusing (OutOfVisits v)) count)
+          (plan.out-of-visits_exactly (in_numbers c) (r / 2 ^ 32)).0 (it.is ∙ ap (λ v. Err (OutOfVisits v)) count)
 
   -- no result has another number: 0, or one of the twelve refusals 1 to 11 and 15
   pub no_other-number : TestNumber (r % 256) ⊎ SearchNumber (r % 256)
@@ -330,21 +325,21 @@ pub record RecordTold (g : Given) (found out : List ℕ) (L : ℕ) : Type 0 wher
 module _ (g : Given) (found : List ℕ) (r : ℕ) (out : List ℕ) (given : RecordGiven g found r out) where
   -- by which case the writer answers, with r's number and detail
   data Told : Type 0 where
-    is_record : {k : ℕ} → (written g found).answer ≡ Record k → r % 256 ≡ 0 → r / 256 ≡ min k farthest → Told
-    refused_by : {why : PlanRefusal} → (written g found).answer ≡ Unwritten why → r % 256 ≡ unwritten_number why
+    is_record : {k : ℕ} → (written g found).answer ≡ Ok k → r % 256 ≡ 0 → r / 256 ≡ min k farthest → Told
+    refused_by : {why : PlanRefusal} → (written g found).answer ≡ Err why → r % 256 ≡ unwritten_number why
         → r / 256 ≡ min (unwritten_place why) farthest → Told
 
   told : Told
   told = go (written g found).answer refl
     where
-      go : (a : Written) → (written g found).answer ≡ a → Told
-      go (Record k) is =
+      go : (a : Result ℕ PlanRefusal) → (written g found).answer ≡ a → Told
+      go (Ok k) is =
           let packs = given.result ∙ ap packed_record is in
-          is_record is (ap (λ x. x % 256) packs ∙ record_number-read (Record k)) (ap (λ x. x / 256) packs ∙ record_detail_read (Record k))
-      go (Unwritten why) is =
+          is_record is (ap (λ x. x % 256) packs ∙ record_number-read (Ok k)) (ap (λ x. x / 256) packs ∙ record_detail_read (Ok k))
+      go (Err why) is =
           let packs = given.result ∙ ap packed_record is in
-          refused_by is (ap (λ x. x % 256) packs ∙ record_number-read (Unwritten why))
-          (ap (λ x. x / 256) packs ∙ record_detail_read (Unwritten why))
+          refused_by is (ap (λ x. x % 256) packs ∙ record_number-read (Err why))
+          (ap (λ x. x / 256) packs ∙ record_detail_read (Err why))
 
   -- a refusal's number exactly when its condition is the first that holds, with its place
   pub unwritten_exactly : (k : ℕ) → 1 ≤ k → (r % 256 ≡ k) ↔ UnwrittenBy g found k (r / 256)
@@ -364,7 +359,7 @@ module _ (g : Given) (found : List ℕ) (r : ℕ) (out : List ℕ) (given : Reco
       gives : UnwrittenBy g found k (r / 256) → r % 256 ≡ k
       gives it =
           let is = given.result ∙ ap packed_record ((wrote.refused_exactly g found it.why).1 it.first) in
-          ap (λ x. x % 256) is ∙ record_number-read (Unwritten it.why) ∙ it.number_is
+          ap (λ x. x % 256) is ∙ record_number-read (Err it.why) ∙ it.number_is
 
   -- a refusal leaves every byte of the output as found
   pub unwritten_leaves : 1 ≤ r % 256 → out ≡ found
@@ -385,7 +380,7 @@ module _ (g : Given) (found : List ℕ) (r : ℕ) (out : List ℕ) (given : Reco
       gives : NoneHolds (write_tests g found) → r % 256 ≡ 0
       gives none =
           let is = given.result ∙ ap packed_record ((wrote.else_written g found (length (record_of (fields_of g)))).1 (none, refl)) in
-          ap (λ x. x % 256) is ∙ record_number-read (Record (length (record_of (fields_of g))))
+          ap (λ x. x % 256) is ∙ record_number-read (Ok (length (record_of (fields_of g))))
 
   -- and then the record is told
   pub record_told : r % 256 ≡ 0 → RecordTold g found out (r / 256)
@@ -424,14 +419,14 @@ module _ (width height : ℕ) (b : List ℕ) (r : ℕ) (given : r ≡ packed_rea
   -- what is given for a fault, and for a board
   of-fault : {f : Fault} → FirstToHold (fault_tests width height b) f → r ≡ packed_fault f
   unfolding reach_after
-  of-fault {f} first = given ∙ ap (λ (t : Tested). reach_after t b) (faulty-given width height b f first)
+  of-fault {f} first = given ∙ ap (λ (t : Result Shape Fault). reach_after t b) (faulty-given width height b f first)
 
   of-board : NoneHolds (fault_tests width height b) → (odd : Bool) → is_odd shape b ≡ odd → r ≡ cond odd 9 0
   unfolding reach_after
   of-board none odd is =
       let good = board-of width height b none in
       given
-      ∙ ap (λ (t : Tested). reach_after t b) (faultless-sound shape b good.0 good.1)
+      ∙ ap (λ (t : Result Shape Fault). reach_after t b) (faultless-sound shape b good.0 good.1)
       ∙ ap (λ (t : Bool). cond t 9 0) is
 
   -- by which case the test answers
@@ -447,9 +442,9 @@ module _ (width height : ℕ) (b : List ℕ) (r : ℕ) (given : r ≡ packed_rea
       parity none true is = odd none is (of-board none true is)
       parity none false is = even none is (of-board none false is)
 
-      go : (t : Tested) → tested width height b ≡ t → Said
-      go (Faulty f) is = let first = faulty_means width height b f is in faulty first (of-fault first)
-      go (Sound s) is = parity (none-faulty width height b s is) (is_odd shape b) refl
+      go : (t : Result Shape Fault) → tested width height b ≡ t → Said
+      go (Err f) is = let first = faulty_means width height b f is in faulty first (of-fault first)
+      go (Ok s) is = parity (none-faulty width height b s is) (is_odd shape b) refl
 
   -- 1 to 4 exactly when that test holds and no earlier one does, with its cell
   pub reach_refused_exactly : (k : ℕ) → 1 ≤ k → k ≤ 4 → (r % 256 ≡ k) ↔ FaultyBy width height b k (r / 256)

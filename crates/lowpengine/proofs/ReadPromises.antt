@@ -5,6 +5,7 @@
 --     refusals           exactly when, and the output stays
 --     both ways          what lowpengine_write_record writes is read back to the same fields; what is read it writes to the same bytes
 -- Assumes nothing.
+use Rattle.std.specs.Prelude.{Result, Ok, Err}
 use Prim.Native.Nat.{ℕ, ◌+◌, ◌/◌, ◌%◌, ◌≤◌, min}
 use mathlib.Core.Path.{◌≡◌, refl, sym, ap, subst, ◌∙◌}
 use mathlib.Core.Logic.{◌↔◌}
@@ -14,9 +15,6 @@ use lib.ListN.{length, take, drop}
 use Rattle.board.specs.Lists.{Solves}
 use Rattle.records.specs.declared.Numbers.{Numbers}
 use Rattle.records.specs.declared.ReadRefusal.{ReadRefusal}
-use Rattle.records.specs.declared.ReadAnswer.{ReadAnswer}
-use Rattle.records.specs.declared.ReadAnswer.TheVariants.{Fields, Refused}
-use Rattle.records.specs.declared.Written.TheVariants.{Record}
 use Rattle.records.specs.Form.{Bytes}
 use Rattle.records.specs.Record.{record_of}
 use Rattle.records.specs.Write.{Given, fields_of, shape_of, written}
@@ -35,14 +33,16 @@ use Rattle.lowpengine.proofs.Promises.{written_exactly, record_told}
 -- ---- fields
 
 -- of every answer of the record reader: its number, and the detail
-pub reading-fields : (a : ReadAnswer) → (packed_reading a % 256 ≡ reading_number a) × (packed_reading a / 256 ≡ reading_detail a)
+pub reading-fields :
+    (a : Result Numbers ReadRefusal)
+    → (packed_reading a % 256 ≡ reading_number a) × (packed_reading a / 256 ≡ reading_detail a)
 reading-fields a = (reading-number-read a, reading_detail_read a)
 
 -- of every record that is read: its numbers
-pub numbers-told : (bytes found : List ℕ) (n : Numbers) → (read_back bytes found).answer ≡ Fields n
+pub numbers-told : (bytes found : List ℕ) (n : Numbers) → (read_back bytes found).answer ≡ Ok n
     → ReadsNumbers (packed_reading (read_back bytes found).answer) n
 numbers-told bytes found n is =
-    subst (λ (a : ReadAnswer). ReadsNumbers (packed_reading a) n) (sym is) (numbers-read n (reads_narrow bytes found n is))
+    subst (λ (a : Result Numbers ReadRefusal). ReadsNumbers (packed_reading a) n) (sym is) (numbers-read n (reads_narrow bytes found n is))
 
 -- ---- settled
 
@@ -62,19 +62,19 @@ pub record UnreadBy (bytes found : List ℕ) (k i : ℕ) : Type 0 where
 module _ (bytes found : List ℕ) (r : ℕ) (out : List ℕ) (given : ReadGiven bytes found r out) where
   -- by which case the reader answers, with r's numbers, or its number and detail
   data Told : Type 0 where
-    fields-of : {n : Numbers} → (read_back bytes found).answer ≡ Fields n → ReadsNumbers r n → Told
-    refused_by : {why : ReadRefusal} → (read_back bytes found).answer ≡ Refused why → r % 256 ≡ unread_number why
+    fields-of : {n : Numbers} → (read_back bytes found).answer ≡ Ok n → ReadsNumbers r n → Told
+    refused_by : {why : ReadRefusal} → (read_back bytes found).answer ≡ Err why → r % 256 ≡ unread_number why
         → r / 256 ≡ min (unread_place why) farthest → Told
 
   told : Told
   told = go (read_back bytes found).answer refl
     where
-      go : (a : ReadAnswer) → (read_back bytes found).answer ≡ a → Told
-      go (Fields n) is = fields-of is (subst (λ x. ReadsNumbers x n) (sym given.result) (numbers-told bytes found n is))
-      go (Refused why) is =
+      go : (a : Result Numbers ReadRefusal) → (read_back bytes found).answer ≡ a → Told
+      go (Ok n) is = fields-of is (subst (λ x. ReadsNumbers x n) (sym given.result) (numbers-told bytes found n is))
+      go (Err why) is =
           let packs = given.result ∙ ap packed_reading is in
-          refused_by is (ap (λ x. x % 256) packs ∙ reading-number-read (Refused why))
-          (ap (λ x. x / 256) packs ∙ reading_detail_read (Refused why))
+          refused_by is (ap (λ x. x % 256) packs ∙ reading-number-read (Err why))
+          (ap (λ x. x / 256) packs ∙ reading_detail_read (Err why))
 
   -- a refusal's number exactly when its condition is the first met, with its place
   pub unread_exactly : (k : ℕ) → 1 ≤ k → (r % 256 ≡ k) ↔ UnreadBy bytes found k (r / 256)
@@ -93,7 +93,7 @@ module _ (bytes found : List ℕ) (r : ℕ) (out : List ℕ) (given : ReadGiven 
       gives : UnreadBy bytes found k (r / 256) → r % 256 ≡ k
       gives it =
           let is = given.result ∙ ap packed_reading ((back.read-refused_exactly bytes found it.why).1 it.first) in
-          ap (λ x. x % 256) is ∙ reading-number-read (Refused it.why) ∙ it.number_is
+          ap (λ x. x % 256) is ∙ reading-number-read (Err it.why) ∙ it.number_is
 
   -- a refusal leaves every byte of the output as found
   pub unread_leaves : 1 ≤ r % 256 → out ≡ found
@@ -155,7 +155,7 @@ pub written_reads : (g : Given) (found : List ℕ) (r : ℕ) (out : List ℕ) �
     → ReadsNumbers s (back.numbers_for g) × (room' ≡ back.received g.board g.moves room)
 written_reads g found r out wrote_it zero_number room s room' enough read-it =
     let k = length (record_of (fields_of g)) in
-    let is : (written g found).answer ≡ Record k =
+    let is : (written g found).answer ≡ Ok k =
     (wrote.else_written g found k).1 ((written_exactly g found r out wrote_it).0 zero_number, refl) in
     let long : r / 256 ≡ k = (record_told g found r out wrote_it zero_number).length-is in
     let same : take (r / 256) out ≡ take k (written g found).out =

@@ -2,7 +2,7 @@
 -- player's, the record writer's and the record reader's are their own. Assumes nothing.
 use Rattle.std.specs.Prelude.{ℕ, ◌≡◌, List, ◌++◌}
 use Rattle.planner.specs.Answer.{Call, answered, called}
-use Rattle.player.specs.declared.Played.{Played}
+use Rattle.player.specs.Play.{Played}
 use Rattle.player.specs.Play.{PlayedAs}
 use Rattle.records.specs.Write.{Given, written}
 use Rattle.records.specs.Read.{read_back}

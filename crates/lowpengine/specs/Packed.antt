@@ -3,24 +3,21 @@
 -- the record writer's (0 for a record that was written), the reader's (0 for a record that was read), whose detail may be seven fields,
 -- and the reachability test's (0 where 9 is not given).
 -- Assumes nothing.
-use Rattle.std.specs.Prelude.{ℕ, ◌+◌, ◌*◌, ◌-◌, ◌^◌, ◌<◌, min, ◌≡◌, cond, List}
+use Rattle.std.specs.Prelude.{ℕ, ◌+◌, ◌*◌, ◌-◌, ◌^◌, ◌<◌, min, ◌≡◌, Bool, cond, List, Result, Ok, Err}
 use Rattle.board.specs.declared.Shape.{Shape}
 use Rattle.board.specs.declared.Fault.{Fault}
-use Rattle.board.specs.declared.Tested.{Tested}
-use Rattle.board.specs.declared.Tested.TheVariants.{Sound, Faulty}
 use Rattle.board.specs.Faults.{tested, fault_number, fault_cell}
 use Rattle.board.specs.Parity.{is_odd}
-use Rattle.planner.specs.declared.Answer.{Answer}
+use Rattle.planner.specs.Answer.{Answer}
+use Rattle.planner.specs.declared.Refusal.{Refusal}
+use Rattle.planner.specs.declared.Refusal.TheVariants.{Board, OddBoard}
 use Rattle.planner.specs.Answer.{number, cell, plan_length, visits}
-use Rattle.player.specs.declared.Played.{Played}
-use Rattle.player.specs.declared.Played.TheVariants.{End, Refused}
+use Rattle.player.specs.Play.{Played}
 use Rattle.player.specs.Answers.{answer_number, refusal_place}
-use Rattle.records.specs.declared.Written.{Written}
-use Rattle.records.specs.declared.Written.TheVariants.{Record, Refused as Unwritten}
+use Rattle.records.specs.declared.PlanRefusal.{PlanRefusal}
+use Rattle.records.specs.declared.ReadRefusal.{ReadRefusal}
 use Rattle.records.specs.Answers.{answer_number as written_number, refusal_place as unwritten_place}
 use Rattle.records.specs.declared.Numbers.{Numbers}
-use Rattle.records.specs.declared.ReadAnswer.{ReadAnswer}
-use Rattle.records.specs.declared.ReadAnswer.TheVariants.{Fields, Refused as Unread}
 use Rattle.records.specs.Readings.{reading_number, unread_place}
 
 -- fields that do not run into each other
@@ -39,20 +36,23 @@ packed_plan a = packed (number a) (cell a) (plan_length a) (visits a)
 abbrev pub farthest : ℕ
 farthest = 2 ^ 56 - 1
 
+-- what stands from bit 8 on beside a number: what is told of an answer, or a refusal's place
+abbrev pub detail : {T R : Type 0} → (T → ℕ) → (R → ℕ) → Result T R → ℕ
+detail of place (Ok x) = of x
+detail of place (Err why) = min (place why) farthest
+
 -- of a list that was played: 1 exactly if it ends at the goal; of a refusal: the cell of 3 and 4, the place of 13 and 14, else 0
 abbrev pub play_detail : Played → ℕ
-play_detail (End goal) = cond goal 1 0
-play_detail (Refused why) = min (refusal_place why) farthest
+play_detail a = detail (λ (goal : Bool). cond goal 1 0) refusal_place a
 
 abbrev pub packed_play : Played → ℕ
 packed_play a = answer_number a + 2 ^ 8 * play_detail a
 
 -- of a record that was written: its length; of a refusal: the cell of 3 and 4, the place of 13 and 14, else 0
-abbrev pub record_detail : Written → ℕ
-record_detail (Record length) = min length farthest
-record_detail (Unwritten why) = min (unwritten_place why) farthest
+abbrev pub record_detail : Result ℕ PlanRefusal → ℕ
+record_detail a = detail (λ length. min length farthest) unwritten_place a
 
-abbrev pub packed_record : Written → ℕ
+abbrev pub packed_record : Result ℕ PlanRefusal → ℕ
 packed_record a = written_number a + 2 ^ 8 * record_detail a
 
 -- the numbers of a record that was read do not run into each other
@@ -65,8 +65,8 @@ pub record Narrow (n : Numbers) : Type 0 where
   pub small-length : n.length < 2 ^ 7
   pub small-visits : n.visits < 2 ^ 20
 
-abbrev pub NarrowIn : ReadAnswer → Type 0
-NarrowIn a = (n : Numbers) → a ≡ Fields n → Narrow n
+abbrev pub NarrowIn : Result Numbers ReadRefusal → Type 0
+NarrowIn a = (n : Numbers) → a ≡ Ok n → Narrow n
 
 -- width, height, ceiling, p, q, length and visits, each above the bits of those before it: 3, 3, 7, 7, 7, 7 and 20 of them
 abbrev pub packed_numbers : Numbers → ℕ
@@ -75,11 +75,10 @@ packed_numbers n =
     + 2 ^ 3 * (n.height + 2 ^ 3 * (n.ceiling + 2 ^ 7 * (n.p + 2 ^ 7 * (n.q + 2 ^ 7 * (n.length + 2 ^ 7 * n.visits)))))
 
 -- of a record that was read: its numbers; of a refusal: the place
-abbrev pub reading_detail : ReadAnswer → ℕ
-reading_detail (Fields n) = packed_numbers n
-reading_detail (Unread why) = min (unread_place why) farthest
+abbrev pub reading_detail : Result Numbers ReadRefusal → ℕ
+reading_detail a = detail packed_numbers unread_place a
 
-abbrev pub packed_reading : ReadAnswer → ℕ
+abbrev pub packed_reading : Result Numbers ReadRefusal → ℕ
 packed_reading a = reading_number a + 2 ^ 8 * reading_detail a
 
 -- of the reachability test: tests 1 to 4 with the cell, then 9 for an odd board, and else 0
@@ -89,9 +88,17 @@ packed_fault f = fault_number f + 2 ^ 8 * fault_cell f
 abbrev pub odd_number : Shape → List ℕ → ℕ
 odd_number s b = cond (is_odd s b) 9 0
 
-unfoldable pub reach_after : Tested → List ℕ → ℕ
-reach_after (Faulty f) b = packed_fault f
-reach_after (Sound s) b = odd_number s b
+unfoldable pub reach_after : Result Shape Fault → List ℕ → ℕ
+reach_after (Err f) b = packed_fault f
+reach_after (Ok s) b = odd_number s b
 
 abbrev pub packed_reach : ℕ → ℕ → List ℕ → ℕ
 packed_reach width height b = reach_after (tested width height b) b
+
+-- the same as an answer: the refusals 1 to 4 and 9
+abbrev pub reached_after : Result Shape Fault → List ℕ → Result Unit Refusal
+reached_after (Err f) b = Err (Board f)
+reached_after (Ok s) b = cond (is_odd s b) (Err OddBoard) (Ok tt)
+
+abbrev pub reached : ℕ → ℕ → List ℕ → Result Unit Refusal
+reached width height b = reached_after (tested width height b) b

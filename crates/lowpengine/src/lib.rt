@@ -6,12 +6,9 @@
 
 #![tactic(auto)]
 
+mod packing;
 mod planning;
-mod playing;
 mod reaching;
-mod reading;
-mod recording;
-mod told;
 
 ghost use Rattle.std.specs.Prelude.{◌≡◌};
 ghost use Rattle.planner.specs.Answer.{called};
@@ -20,11 +17,8 @@ ghost use Rattle.records.specs.Write.{given};
 ghost use Rattle.lowpengine.specs.Packed.{packed_reach};
 ghost use Rattle.lowpengine.specs.Given.{PlanGiven, PlayGiven, RecordGiven, ReadGiven};
 
+use crate::packing::{packed_play, packed_reach, packed_reading, packed_record};
 use crate::planning::plan_in_bytes;
-use crate::playing::packed_play;
-use crate::reaching::packed_reach;
-use crate::reading::packed_reading;
-use crate::recording::packed_record;
 use planner::call::{SHORT_P, SHORT_Q};
 use player::play;
 use records::read::read;

@@ -1,15 +1,14 @@
 // The planner's call with the table as bytes. Nothing that stood in the table matters, so the search has a table of its own, of as many
 // numbers as the caller's bytes give; afterwards the caller's bytes are cleared where the search's numbers stand.
-ghost use Rattle.std.specs.Prelude.{◌≡◌, ◌/◌, min, length, replicate};
+ghost use Rattle.std.specs.Prelude.{◌≡◌};
 ghost use Rattle.planner.specs.Limits.{ceiling_of};
-ghost use Rattle.planner.specs.Answer.{called, number, cell, plan_length};
+ghost use Rattle.planner.specs.Answer.{called};
 ghost use Rattle.lowpengine.specs.Bytes.{numbers_used};
-ghost use Rattle.lowpengine.specs.Packed.{Apart, packed, packed_plan};
 ghost use Rattle.lowpengine.specs.Given.{PlanGiven};
 
-use planner::Answer;
+use crate::packing::packed_plan;
 use planner::call::plan;
-use planner::fields::{cell, number, plan_length, search_ran, visits};
+use planner::fields::search_ran;
 
 // The numbers that a search to the highest ceiling uses.
 const MOST: usize = 484;
@@ -32,7 +31,7 @@ pub fn plan_in_bytes(
 {
     let mut own = [0u16; MOST];
     let all = table.len();
-    let lent = numbers_lent(all);
+    let lent = (all / 2).min(MOST);
     let answer = plan(
         width,
         height,
@@ -45,16 +44,8 @@ pub fn plan_in_bytes(
         &mut own[..lent],
     );
     let used = 2 * numbers_used(search_ran(answer), ceiling);
-    clear(&mut table[..used]);
-    packed_answer(answer)
-}
-
-// How many numbers a table of so many bytes gives the search.
-fn numbers_lent(bytes: usize) -> usize
-    ensures { result ≡ min (bytes / 2) 484 }
-{
-    let count = bytes / 2;
-    if count < MOST { count } else { MOST }
+    table[..used].fill(0);
+    packed_plan(answer)
 }
 
 // How many numbers are cleared: those of the search where it was run. A test's refusal leaves the table as found.
@@ -71,31 +62,5 @@ fn numbers_used(ran: bool, ceiling: i32) -> usize
 fn highest_depth(ceiling: i32) -> usize
     ensures { result ≡ ceiling_of ceiling }
 {
-    if ceiling < 0 { 0 } else { ceiling as usize }
-}
-
-fn clear(bytes: &mut [u8])
-    ensures { bytes.new ≡ replicate (length bytes.old) 0 }
-{
-    let mut i = 0;
-    while i < bytes.len() {
-        bytes[i] = 0;
-        i += 1;
-    }
-}
-
-fn packed_answer(a: Answer) -> u64
-    requires { Apart (number a) (cell a) (plan_length a) }
-    ensures { result ≡ packed_plan a }
-{
-    packed(number(a), cell(a), plan_length(a), visits(a))
-}
-
-// The four fields at bits 0, 8, 16 and 32.
-fn packed(number: u32, cell: usize, length: usize, visits: u32) -> u64
-    requires { Apart number cell length }
-    ensures { result ≡ packed number cell length visits }
-{
-    let low = number as u64 + 256 * (cell as u64);
-    low + 65536 * (length as u64) + 4294967296 * (visits as u64)
+    usize::try_from(ceiling).unwrap_or(0)
 }

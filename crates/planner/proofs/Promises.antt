@@ -30,8 +30,8 @@ use Rattle.planner.specs.declared.Plan.{Plan}
 use Rattle.planner.specs.declared.Limit.TheVariants.{NotLowest}
 use Rattle.planner.specs.declared.Refusal.{Refusal}
 use Rattle.planner.specs.declared.Refusal.TheVariants.{Beyond, NoPlan, OutOfVisits, OddBoard}
-use Rattle.planner.specs.declared.Answer.{Answer}
-use Rattle.planner.specs.declared.Answer.TheVariants.{Planned, Refused}
+use Rattle.planner.specs.Answer.{Answer}
+use Rattle.std.specs.Prelude.{Ok, Err}
 use Rattle.planner.specs.Limits.{ceiling_of, bad_weight, CommonDivisor, divides_both, shares_divisor}
 use Rattle.planner.specs.Answer.{Call, Left, Settles, shape_of, weight_of, tests, cleared, answered}
 use Rattle.planner.specs.Answer.{number, refusal_number, TestNumber, LateNumber, SearchNumber, visits}
@@ -56,15 +56,15 @@ module _ (c : Call) where
   -- ---- B1: which answer is given
 
   -- each of the refusals 1 to 9 and 15 is given exactly when its test holds and no earlier one does
-  pub refused_exactly : (r : Refusal) → TestNumber (refusal_number r) → ((answered c).answer ≡ Refused r) ↔ FirstToHold (tests c) r
+  pub refused_exactly : (r : Refusal) → TestNumber (refusal_number r) → ((answered c).answer ≡ Err r) ↔ FirstToHold (tests c) r
   refused_exactly = given_exactly c
 
   -- 10 exactly when none of them holds and the search returns infinity; v is the count of visits
-  pub no_plan_exactly : (v : ℕ) → ((answered c).answer ≡ Refused (NoPlan v)) ↔ Returned c v
+  pub no_plan_exactly : (v : ℕ) → ((answered c).answer ≡ Err (NoPlan v)) ↔ Returned c v
   no_plan_exactly = no_plan-is c
 
   -- 11 exactly when none of them holds and the search is spent; v is the budget
-  pub out-of-visits_exactly : (v : ℕ) → ((answered c).answer ≡ Refused (OutOfVisits v)) ↔ OutOf c v
+  pub out-of-visits_exactly : (v : ℕ) → ((answered c).answer ≡ Err (OutOfVisits v)) ↔ OutOf c v
   out-of-visits_exactly = out-of-visits-is c
 
   -- 9 exactly when tests 1 to 8 and 15 pass and the board is odd (refused_exactly, spelled out for the reachability test by itself)
@@ -80,7 +80,7 @@ module _ (c : Call) where
   no_other-number = each_number c
 
   -- 15 comes directly after 7: exactly when none of 1 to 7 holds and some number above 1 divides both p and q
-  pub not-lowest_exactly : ((answered c).answer ≡ Refused (Beyond NotLowest)) ↔ PastSeven c
+  pub not-lowest_exactly : ((answered c).answer ≡ Err (Beyond NotLowest)) ↔ PastSeven c
   not-lowest_exactly = not-lowest-is c
 
   -- a weight that is taken is in lowest terms
@@ -103,7 +103,7 @@ module _ (c : Call) where
       → SameAnswer (answered c) moves (answered (lending c moves table))
   buffers-never_matter = by_length c
 
-  module _ (pl : Plan) (planned : (answered c).answer ≡ Planned pl) where
+  module _ (pl : Plan) (planned : (answered c).answer ≡ Ok pl) where
     made : PlanMade c pl
     made = plan-made c pl planned
 
@@ -143,27 +143,27 @@ module _ (c : Call) where
   visits-within-budget = visits-counted c
 
   -- where 11 is given, a plan or a 10 at any other budget takes more visits than this one
-  module _ (v : ℕ) (out : (answered c).answer ≡ Refused (OutOfVisits v)) (budget : ℕ) where
-    pub spent_needs_more-to-plan : (pl : Plan) → (answered (budgeted c budget)).answer ≡ Planned pl → v < pl.visits
+  module _ (v : ℕ) (out : (answered c).answer ≡ Err (OutOfVisits v)) (budget : ℕ) where
+    pub spent_needs_more-to-plan : (pl : Plan) → (answered (budgeted c budget)).answer ≡ Ok pl → v < pl.visits
     spent_needs_more-to-plan = spent-before-plan c v out budget
 
-    pub spent_needs_more-to_refuse : (w : ℕ) → (answered (budgeted c budget)).answer ≡ Refused (NoPlan w) → v < w
+    pub spent_needs_more-to_refuse : (w : ℕ) → (answered (budgeted c budget)).answer ≡ Err (NoPlan w) → v < w
     spent_needs_more-to_refuse = spent-before-none c v out budget
 
   -- ---- B3, of refusals 10 and 9
 
   -- refusal 10: no legal list of at most `ceiling` moves leads to the goal
-  pub no_plan-within : (v : ℕ) → (answered c).answer ≡ Refused (NoPlan v) → (ds : List ℕ) → Solves (shape_of c) c.board ds
+  pub no_plan-within : (v : ℕ) → (answered c).answer ≡ Err (NoPlan v) → (ds : List ℕ) → Solves (shape_of c) c.board ds
       → ceiling_of c.ceiling < length ds
   no_plan-within = no_plan_means c
 
   -- a ceiling below the board's distance can't be met: 10 with one visit, at every budget
   pub too_far_at-once : NoneHolds (tests c) → ceiling_of c.ceiling < distance (shape_of c) c.board
-      → (answered c).answer ≡ Refused (NoPlan 1)
+      → (answered c).answer ≡ Err (NoPlan 1)
   too_far_at-once = at_once c
 
   -- refusal 9: none of any length does
-  pub odd-board-never : (answered c).answer ≡ Refused OddBoard → (ds : List ℕ) → Solves (shape_of c) c.board ds → ⊥
+  pub odd-board-never : (answered c).answer ≡ Err OddBoard → (ds : List ℕ) → Solves (shape_of c) c.board ds → ⊥
   odd-board-never = odd-board_means c
 
   -- ---- no number of the search but infinity comes near 65,535
@@ -213,6 +213,6 @@ module _ (width height : ℕ) (board : List ℕ) (ceiling : ℤ) (budget : ℕ) 
   abbrev shortly : Call
   shortly = called_short width height board ceiling budget moves table
 
-  pub short-near : (pl : Plan) → (answered shortly).answer ≡ Planned pl → (ds : List ℕ) → Solves (shape_of shortly) board ds
+  pub short-near : (pl : Plan) → (answered shortly).answer ≡ Ok pl → (ds : List ℕ) → Solves (shape_of shortly) board ds
       → 2 * pl.length ≤ 3 * length ds
   short-near = plan-near shortly

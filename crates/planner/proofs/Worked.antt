@@ -17,8 +17,8 @@ use Rattle.board.specs.Faults.{first_too_large, first_holding, repeats, first_re
 use Rattle.search.specs.Row.{better, best_of, best, masked, second, may_go_on, goes_on, handed_down, first_stored, above_ceiling}
 use Rattle.search.specs.Search.{static, taken_up, turn, work, unless_goal, is_successor, first_entry, first_row, visit, search}
 use Rattle.planner.specs.declared.Refusal.TheVariants.{Board, OddBoard, NoPlan, OutOfVisits}
-use Rattle.planner.specs.declared.Answer.{Answer}
-use Rattle.planner.specs.declared.Answer.TheVariants.{Planned, Refused}
+use Rattle.planner.specs.Answer.{Answer}
+use Rattle.std.specs.Prelude.{Ok, Err}
 use Rattle.planner.specs.Limits.{bad_ceiling, ceiling_of, bad_budget, bad_weight, divides_both, shares_divisor, limit_tests}
 use Rattle.planner.specs.Answer.{Left}
 use Rattle.planner.specs.Answer.{called, short_buffer, last_tests, tests, searched, concluded, after_tests, answered, plan_length}
@@ -58,7 +58,7 @@ plans w b ceiling budget ms visits =
       board = b;
       ceiling = ceiling;
       budget = budget;
-      answer = Planned (record { length = length ms; visits = visits });
+      answer = Ok (record { length = length ms; visits = visits });
       moves = ms;
     }
 
@@ -82,18 +82,18 @@ pub rows : List Row
 rows =
     plans 2 (0 ∷ 1 ∷ 2 ∷ 3 ∷ []) 0 1 [] 1
     ∷ plans 2 (1 ∷ 0 ∷ 2 ∷ 3 ∷ []) 1 2 (left ∷ []) 2
-    ∷ refuses 2 (1 ∷ 0 ∷ 2 ∷ 3 ∷ []) 1 1 (Refused (OutOfVisits 1))
-    ∷ refuses 2 (1 ∷ 0 ∷ 2 ∷ 3 ∷ []) 0 1 (Refused (NoPlan 1))
+    ∷ refuses 2 (1 ∷ 0 ∷ 2 ∷ 3 ∷ []) 1 1 (Err (OutOfVisits 1))
+    ∷ refuses 2 (1 ∷ 0 ∷ 2 ∷ 3 ∷ []) 0 1 (Err (NoPlan 1))
     ∷ plans 2 (3 ∷ 2 ∷ 1 ∷ 0 ∷ []) 6 7 (up ∷ left ∷ down ∷ right ∷ up ∷ left ∷ []) 7
-    ∷ refuses 2 (3 ∷ 2 ∷ 1 ∷ 0 ∷ []) 5 11 (Refused (NoPlan 1))
-    ∷ refuses 2 (3 ∷ 2 ∷ 1 ∷ 0 ∷ []) 5 10 (Refused (NoPlan 1))
+    ∷ refuses 2 (3 ∷ 2 ∷ 1 ∷ 0 ∷ []) 5 11 (Err (NoPlan 1))
+    ∷ refuses 2 (3 ∷ 2 ∷ 1 ∷ 0 ∷ []) 5 10 (Err (NoPlan 1))
     ∷ plans 2 (0 ∷ 3 ∷ 1 ∷ 2 ∷ []) 4 5 (down ∷ right ∷ up ∷ left ∷ []) 5
-    ∷ refuses 2 (0 ∷ 3 ∷ 1 ∷ 2 ∷ []) 3 7 (Refused (NoPlan 1))
-    ∷ refuses 3 (0 ∷ 2 ∷ 1 ∷ 3 ∷ 5 ∷ 4 ∷ []) 2 8 (Refused (NoPlan 1))
-    ∷ refuses 3 (0 ∷ 2 ∷ 1 ∷ 3 ∷ 5 ∷ 4 ∷ []) 2 7 (Refused (NoPlan 1))
-    ∷ refuses 2 (0 ∷ 2 ∷ 1 ∷ 3 ∷ []) 6 9 (Refused OddBoard)
-    ∷ refuses 2 (0 ∷ 1 ∷ 1 ∷ 4 ∷ []) 6 9 (Refused (Board (TooLarge 3)))
-    ∷ refuses 2 (0 ∷ 1 ∷ 1 ∷ 3 ∷ []) 6 9 (Refused (Board (Repeated 2)))
+    ∷ refuses 2 (0 ∷ 3 ∷ 1 ∷ 2 ∷ []) 3 7 (Err (NoPlan 1))
+    ∷ refuses 3 (0 ∷ 2 ∷ 1 ∷ 3 ∷ 5 ∷ 4 ∷ []) 2 8 (Err (NoPlan 1))
+    ∷ refuses 3 (0 ∷ 2 ∷ 1 ∷ 3 ∷ 5 ∷ 4 ∷ []) 2 7 (Err (NoPlan 1))
+    ∷ refuses 2 (0 ∷ 2 ∷ 1 ∷ 3 ∷ []) 6 9 (Err OddBoard)
+    ∷ refuses 2 (0 ∷ 1 ∷ 1 ∷ 4 ∷ []) 6 9 (Err (Board (TooLarge 3)))
+    ∷ refuses 2 (0 ∷ 1 ∷ 1 ∷ 3 ∷ []) 6 9 (Err (Board (Repeated 2)))
     ∷ []
 
 pub worked : map seen rows ≡ map expected rows
@@ -117,7 +117,7 @@ short_row =
       board = 5 ∷ 2 ∷ 1 ∷ 0 ∷ 3 ∷ 4 ∷ [];
       ceiling = 20;
       budget = 18;
-      answer = Planned (record { length = 12; visits = 18 });
+      answer = Ok (record { length = 12; visits = 18 });
       moves =
           up ∷ left ∷ down ∷ right ∷ up ∷ left ∷ down ∷ down ∷ right ∷ up ∷ left ∷ up ∷ [];
     }

@@ -1,21 +1,26 @@
 -- The whole answer of a call (document 01, "Calling the planner"): tests 1 to 7, 15, 8 and 9, then the search; and what stands in both
 -- buffers afterwards. Then the paper's number, cell, length and visits of each answer, and whether the search was run. Assumes nothing.
 use Rattle.std.specs.Prelude.{ℕ, ◌-◌, ◌≤◌, ◌≡◌, ◌⊎◌, Bool, true, false, ◌||◌, List, [], ◌∷◌, ◌++◌, ltb, ℤ, pos, length, drop}
+use Rattle.std.specs.Prelude.{Result, Ok, Err}
 use Rattle.std.proofs.Math.Option.{Option, none, some}
 use Rattle.board.specs.declared.Shape.{Shape}
 use Rattle.board.specs.Tests.{Test, test, first_refusal, under}
 use Rattle.board.specs.Faults.{fault_tests, fault_number, fault_cell}
+use Rattle.board.specs.Numbered.{of_refused}
 use Rattle.board.specs.Parity.{is_odd}
 use Rattle.search.specs.declared.Weight.{Weight}
+use Rattle.planner.specs.declared.Plan.{Plan}
 use Rattle.planner.specs.declared.Terms.{Terms}
 use Rattle.planner.specs.declared.Refusal.{Refusal}
 use Rattle.planner.specs.declared.Refusal.TheVariants.{Board, Beyond, ShortBuffer, OddBoard, NoPlan, OutOfVisits}
-use Rattle.planner.specs.declared.Answer.{Answer}
-use Rattle.planner.specs.declared.Answer.TheVariants.{Planned, Refused}
 use Rattle.search.specs.Space.{boards}
 use Rattle.search.specs.Search.{Outcome, found, value, spent, static, search}
 use Rattle.search.specs.Run.{rows_for, cleared_rows}
 use Rattle.planner.specs.Limits.{ceiling_of, limit_tests, limit_number}
+
+-- a plan or a refusal
+abbrev pub Answer : Type 0
+Answer = Result Plan Refusal
 
 -- what a caller gives; the two buffers as they are lent
 pub record Call : Type 0 where
@@ -66,7 +71,7 @@ searched c =
 
 -- what a test refuses leaves both buffers as found
 abbrev pub untouched : Call → Refusal → Left
-untouched c r = record { answer = Refused r; moves = c.moves; table = c.table }
+untouched c r = record { answer = Err r; moves = c.moves; table = c.table }
 
 -- after a search the table's first 4 × (ceiling + 1) numbers are 0 and the rest is as found
 abbrev pub cleared : Call → List ℕ
@@ -76,12 +81,12 @@ cleared c = cleared_rows (ceiling_of c.ceiling) c.table
 unfoldable pub concluded : Call → Outcome → Left
 concluded c (found ms left) =
     record {
-      answer = Planned (record { length = length ms; visits = c.budget - left });
+      answer = Ok (record { length = length ms; visits = c.budget - left });
       moves = ms ++ drop (length ms) c.moves;
       table = cleared c;
     }
-concluded c (value v left) = record { answer = Refused (NoPlan (c.budget - left)); moves = c.moves; table = cleared c }
-concluded c spent = record { answer = Refused (OutOfVisits c.budget); moves = c.moves; table = cleared c }
+concluded c (value v left) = record { answer = Err (NoPlan (c.budget - left)); moves = c.moves; table = cleared c }
+concluded c spent = record { answer = Err (OutOfVisits c.budget); moves = c.moves; table = cleared c }
 
 -- the first test that holds refuses; where none does, the search is run
 unfoldable pub after_tests : Call → Option Refusal → Left
@@ -129,8 +134,7 @@ abbrev pub SearchNumber : ℕ → Type 0
 SearchNumber k = (k ≡ 0) ⊎ LateNumber k
 
 abbrev pub number : Answer → ℕ
-number (Planned pl) = 0
-number (Refused r) = refusal_number r
+number a = of_refused refusal_number a
 
 -- the cell: 0 but for 3 and 4
 abbrev pub refusal_cell : Refusal → ℕ
@@ -142,13 +146,12 @@ refusal_cell (NoPlan v) = 0
 refusal_cell (OutOfVisits v) = 0
 
 abbrev pub cell : Answer → ℕ
-cell (Planned pl) = 0
-cell (Refused r) = refusal_cell r
+cell a = of_refused refusal_cell a
 
 -- the plan's length: 0 in every refusal
 abbrev pub plan_length : Answer → ℕ
-plan_length (Planned pl) = pl.length
-plan_length (Refused r) = 0
+plan_length (Ok pl) = pl.length
+plan_length (Err r) = 0
 
 -- the visits: 0 in every refusal but 10 and 11
 abbrev pub refusal_visits : Refusal → ℕ
@@ -160,8 +163,8 @@ refusal_visits (NoPlan v) = v
 refusal_visits (OutOfVisits v) = v
 
 abbrev pub visits : Answer → ℕ
-visits (Planned pl) = pl.visits
-visits (Refused r) = refusal_visits r
+visits (Ok pl) = pl.visits
+visits (Err r) = refusal_visits r
 
 -- the search was run: a plan, 10 or 11. Every other refusal is a test's
 abbrev pub refused_by_search : Refusal → Bool
@@ -173,5 +176,5 @@ refused_by_search (NoPlan v) = true
 refused_by_search (OutOfVisits v) = true
 
 abbrev pub search_ran : Answer → Bool
-search_ran (Planned pl) = true
-search_ran (Refused r) = refused_by_search r
+search_ran (Ok pl) = true
+search_ran (Err r) = refused_by_search r

@@ -1,6 +1,6 @@
 -- Tests 5 to 7 and 15: a ceiling, a budget and a weight as they were given, in their order. Every caller's tests 5 to 7 and 15 are these;
 -- each refusal has the paper's number. Assumes nothing.
-use Rattle.std.specs.Prelude.{ℕ, ◌+◌, ◌%◌, ◌<◌, Bool, true, ◌||◌, ◌&&◌, List, [], ◌∷◌, ltb, eqb, ℤ, pos, negsuc}
+use Rattle.std.specs.Prelude.{ℕ, ◌+◌, ◌%◌, ◌<◌, Bool, true, ◌||◌, ◌&&◌, List, [], ◌∷◌, ltb, eqb, ℤ, pos, negsuc, Result, Ok, Err}
 use Rattle.std.specs.Int.{◌∣◌}
 use Rattle.std.proofs.Math.Option.{Option, none, some}
 use Rattle.board.specs.First.{first_of}
@@ -8,8 +8,6 @@ use Rattle.board.specs.Tests.{Test, test, first_refusal}
 use Rattle.planner.specs.declared.Limit.{Limit}
 use Rattle.planner.specs.declared.Limit.TheVariants.{BadCeiling, BadBudget, BadWeight, NotLowest}
 use Rattle.planner.specs.declared.Terms.{Terms}
-use Rattle.planner.specs.declared.Measured.{Measured}
-use Rattle.planner.specs.declared.Measured.TheVariants.{Within, Outside}
 
 -- 5: ceiling below 0 or above 120
 unfoldable pub bad_ceiling : ℤ → Bool
@@ -52,11 +50,11 @@ limit_tests ceiling budget p q =
     ∷ []
 
 -- what they say: a limit that is not kept, or the ceiling and the weight
-unfoldable pub said_of : Terms → Option Limit → Measured
-said_of l (some limit) = Outside limit
-said_of l none = Within l
+unfoldable pub said_of : Terms → Option Limit → Result Terms Limit
+said_of l (some limit) = Err limit
+said_of l none = Ok l
 
-unfoldable pub measured : ℤ → ℕ → ℕ → ℕ → Measured
+unfoldable pub measured : ℤ → ℕ → ℕ → ℕ → Result Terms Limit
 measured ceiling budget p q =
     said_of (record { ceiling = ceiling_of ceiling; weight = record { p = p; q = q } }) (first_refusal (limit_tests ceiling budget p q))
 

@@ -1,106 +1,77 @@
-// An answer's fields: the paper's number, the cell, the plan's length and the visits; and whether the search was run.
+// An answer's fields: a refusal's number and cell by the board's trait, the plan's length and the visits; and whether the search was run.
 ghost use Rattle.std.specs.Prelude.{◌≡◌};
 ghost use Rattle.planner.specs.Answer.{refusal_number, refusal_cell, refusal_visits, refused_by_search, plan_length, search_ran};
-ghost use Rattle.planner.specs.Answer.{number, cell, visits};
+ghost use Rattle.planner.specs.Answer.{visits};
 
-use crate::{Answer, Refusal, limits};
-use board::faults;
+use crate::{Plan, Refusal};
+use board::numbered::Numbered;
 
-// 0 for a plan.
-pub fn number(a: Answer) -> u32
-    ensures { result ≡ number a }
-{
-    match a {
-        Answer::Planned(_) => 0,
-        Answer::Refused(r) => refusal_number(r),
+impl Numbered for Refusal {
+    ghost number_of = { refusal_number };
+
+    ghost place_of = { refusal_cell };
+
+    fn number(self) -> u32 {
+        match self {
+            Refusal::Board(fault) => fault.number(),
+            Refusal::Beyond(limit) => limit.number(),
+            Refusal::ShortBuffer => 8,
+            Refusal::OddBoard => 9,
+            Refusal::NoPlan(_) => 10,
+            Refusal::OutOfVisits(_) => 11,
+        }
+    }
+
+    // Only a fault of the board is of a cell.
+    fn place(self) -> usize {
+        match self {
+            Refusal::Board(fault) => fault.place(),
+            _ => 0,
+        }
     }
 }
 
-pub fn cell(a: Answer) -> usize
-    ensures { result ≡ cell a }
+// 0 in every refusal.
+pub fn plan_length(answer: Result<Plan, Refusal>) -> usize
+    ensures { result ≡ plan_length answer }
 {
-    match a {
-        Answer::Planned(_) => 0,
-        Answer::Refused(r) => refusal_cell(r),
+    match answer {
+        Ok(plan) => plan.length,
+        Err(_) => 0,
     }
 }
 
-pub fn plan_length(a: Answer) -> usize
-    ensures { result ≡ plan_length a }
+// 0 in every refusal but 10 and 11.
+pub fn visits(answer: Result<Plan, Refusal>) -> u32
+    ensures { result ≡ visits answer }
 {
-    match a {
-        Answer::Planned(plan) => plan.length,
-        Answer::Refused(_) => 0,
-    }
-}
-
-pub fn visits(a: Answer) -> u32
-    ensures { result ≡ visits a }
-{
-    match a {
-        Answer::Planned(plan) => plan.visits,
-        Answer::Refused(r) => refusal_visits(r),
+    match answer {
+        Ok(plan) => plan.visits,
+        Err(why) => refusal_visits(why),
     }
 }
 
 // A plan, 10 or 11: the search was run, and the table's numbers that it used are 0.
-pub fn search_ran(a: Answer) -> bool
-    ensures { result ≡ search_ran a }
+pub fn search_ran(answer: Result<Plan, Refusal>) -> bool
+    ensures { result ≡ search_ran answer }
 {
-    match a {
-        Answer::Planned(_) => true,
-        Answer::Refused(r) => refused_by_search(r),
+    match answer {
+        Ok(_) => true,
+        Err(why) => refused_by_search(why),
     }
 }
 
-fn refusal_number(r: Refusal) -> u32
-    ensures { result ≡ refusal_number r }
+fn refusal_visits(why: Refusal) -> u32
+    ensures { result ≡ refusal_visits why }
 {
-    match r {
-        Refusal::Board(f) => faults::number(f),
-        Refusal::Beyond(l) => limits::number(l),
-        Refusal::ShortBuffer => 8,
-        Refusal::OddBoard => 9,
-        Refusal::NoPlan(_) => 10,
-        Refusal::OutOfVisits(_) => 11,
+    match why {
+        Refusal::NoPlan(visits) | Refusal::OutOfVisits(visits) => visits,
+        _ => 0,
     }
 }
 
-fn refusal_cell(r: Refusal) -> usize
-    ensures { result ≡ refusal_cell r }
+fn refused_by_search(why: Refusal) -> bool
+    ensures { result ≡ refused_by_search why }
 {
-    match r {
-        Refusal::Board(f) => faults::cell(f),
-        Refusal::Beyond(_) => 0,
-        Refusal::ShortBuffer => 0,
-        Refusal::OddBoard => 0,
-        Refusal::NoPlan(_) => 0,
-        Refusal::OutOfVisits(_) => 0,
-    }
-}
-
-fn refusal_visits(r: Refusal) -> u32
-    ensures { result ≡ refusal_visits r }
-{
-    match r {
-        Refusal::Board(_) => 0,
-        Refusal::Beyond(_) => 0,
-        Refusal::ShortBuffer => 0,
-        Refusal::OddBoard => 0,
-        Refusal::NoPlan(visits) => visits,
-        Refusal::OutOfVisits(visits) => visits,
-    }
-}
-
-fn refused_by_search(r: Refusal) -> bool
-    ensures { result ≡ refused_by_search r }
-{
-    match r {
-        Refusal::Board(_) => false,
-        Refusal::Beyond(_) => false,
-        Refusal::ShortBuffer => false,
-        Refusal::OddBoard => false,
-        Refusal::NoPlan(_) => true,
-        Refusal::OutOfVisits(_) => true,
-    }
+    matches!(why, Refusal::NoPlan(_) | Refusal::OutOfVisits(_))
 }

@@ -9,18 +9,21 @@ pub mod call;
 pub mod fields;
 pub mod limits;
 
+ghost use Rattle.std.specs.Prelude.{◌≡◌};
+ghost use Rattle.planner.specs.declared.Refusal.TheVariants.{Board, Beyond};
+
 use board::Fault;
 use search::Weight;
 
 // A plan: how many moves, and how many visits the search made.
-#[derive(Clone, Copy)]
+#[derive(Clone, Copy, Debug, PartialEq, Eq)]
 pub struct Plan {
     pub length: usize,
     pub visits: u32,
 }
 
 // A ceiling, a budget or a weight that is not taken: the paper's 5 to 7 and 15, in its order.
-#[derive(Clone, Copy)]
+#[derive(Clone, Copy, Debug, PartialEq, Eq)]
 pub enum Limit {
     // 5: ceiling below 0 or above 120
     BadCeiling,
@@ -33,21 +36,14 @@ pub enum Limit {
 }
 
 // The ceiling and the weight of a call that keeps the limits.
-#[derive(Clone, Copy)]
+#[derive(Clone, Copy, Debug, PartialEq, Eq)]
 pub struct Terms {
     pub ceiling: usize,
     pub weight: Weight,
 }
 
-// What tests 5 to 7 and 15 say.
-#[derive(Clone, Copy)]
-pub enum Measured {
-    Within(Terms),
-    Outside(Limit),
-}
-
 // Why there is no plan: the paper's 1 to 7, 15 and 8 to 11, in its order.
-#[derive(Clone, Copy)]
+#[derive(Clone, Copy, Debug, PartialEq, Eq)]
 pub enum Refusal {
     // 1 to 4: the shape or the board
     Board(Fault),
@@ -63,8 +59,18 @@ pub enum Refusal {
     OutOfVisits(u32),
 }
 
-#[derive(Clone, Copy)]
-pub enum Answer {
-    Planned(Plan),
-    Refused(Refusal),
+impl From<Fault> for Refusal {
+    ghost from_gives = { λ fault refusal. refusal ≡ Board fault };
+
+    fn from(fault: Fault) -> Refusal {
+        Refusal::Board(fault)
+    }
+}
+
+impl From<Limit> for Refusal {
+    ghost from_gives = { λ limit refusal. refusal ≡ Beyond limit };
+
+    fn from(limit: Limit) -> Refusal {
+        Refusal::Beyond(limit)
+    }
 }

@@ -3,44 +3,53 @@ ghost use Rattle.std.specs.Prelude.{◌<◌, ◌≡◌, false};
 ghost use Rattle.planner.specs.Limits.{bad_ceiling, ceiling_of, bad_budget, bad_weight, limit_number, divides_both, shares_divisor};
 ghost use Rattle.planner.specs.Limits.{measured};
 
-use crate::{Limit, Measured, Terms};
+use crate::{Limit, Terms};
+use board::numbered::Numbered;
 use search::Weight;
 
 // What tests 5 to 7 and 15 say, in their order.
-pub fn measured(ceiling: i32, budget: u32, p: u32, q: u32) -> Measured
+pub fn measured(ceiling: i32, budget: u32, p: u32, q: u32) -> Result<Terms, Limit>
     ensures { result ≡ measured ceiling budget p q }
 {
     if bad_ceiling(ceiling) {
-        return Measured::Outside(Limit::BadCeiling);
+        return Err(Limit::BadCeiling);
     }
     if bad_budget(budget) {
-        return Measured::Outside(Limit::BadBudget);
+        return Err(Limit::BadBudget);
     }
     if bad_weight(p, q) {
-        return Measured::Outside(Limit::BadWeight);
+        return Err(Limit::BadWeight);
     }
     if shares_divisor(p, q) {
-        return Measured::Outside(Limit::NotLowest);
+        return Err(Limit::NotLowest);
     }
     let weight = Weight {
         p: p as usize,
         q: q as usize,
     };
-    Measured::Within(Terms {
+    Ok(Terms {
         ceiling: ceiling_of(ceiling),
         weight,
     })
 }
 
-// The paper's number of a limit.
-pub fn number(l: Limit) -> u32
-    ensures { result ≡ limit_number l }
-{
-    match l {
-        Limit::BadCeiling => 5,
-        Limit::BadBudget => 6,
-        Limit::BadWeight => 7,
-        Limit::NotLowest => 15,
+impl Numbered for Limit {
+    ghost number_of = { limit_number };
+
+    ghost place_of = { λ l. 0 };
+
+    fn number(self) -> u32 {
+        match self {
+            Limit::BadCeiling => 5,
+            Limit::BadBudget => 6,
+            Limit::BadWeight => 7,
+            Limit::NotLowest => 15,
+        }
+    }
+
+    // None is of a cell.
+    fn place(self) -> usize {
+        0
     }
 }
 
@@ -81,12 +90,10 @@ fn shares_divisor(p: u32, q: u32) -> bool
     requires { bad_weight p q ≡ false }
     ensures { result ≡ shares_divisor p q }
 {
-    let mut d = 2;
-    while d <= q {
+    for d in 2..q + 1 {
         if divides_both(p, q, d) {
             return true;
         }
-        d += 1;
     }
     false
 }

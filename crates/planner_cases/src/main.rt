@@ -12,14 +12,15 @@
 
 mod input;
 
-ghost use Rattle.std.specs.Prelude.{◌≤◌};
+ghost use Rattle.std.specs.Prelude.{◌≤◌, IfSome};
 
 use crate::input::{next_number, read_cells};
-use planner::Answer;
+use board::numbered::Numbered;
 use planner::call::{plan, plan_short};
-use planner::fields::{cell, number, plan_length, visits};
-use std::io;
+use planner::fields::{plan_length, visits};
+use planner::{Plan, Refusal};
 use std::io::Read;
+use std::{array, io};
 
 // Plans with the weight p over q, with the first `room` numbers of the table.
 fn show(
@@ -35,10 +36,8 @@ fn show(
 ) -> io::Result<()>
     requires { room ≤ 484 }
 {
-    let mut moves = [0u8; 120];
-    let mut table = [0u16; 484];
-    fill_moves(&mut moves);
-    fill_table(&mut table);
+    let mut moves: [u8; 120] = array::from_fn(noise_byte);
+    let mut table: [u16; 484] = array::from_fn(noise_number);
     let answer = plan(
         width,
         height,
@@ -63,10 +62,8 @@ fn show_short(
     ceiling: i32,
     budget: u32,
 ) -> io::Result<()> {
-    let mut moves = [0u8; 120];
-    let mut table = [0u16; 484];
-    fill_moves(&mut moves);
-    fill_table(&mut table);
+    let mut moves: [u8; 120] = array::from_fn(noise_byte);
+    let mut table: [u16; 484] = array::from_fn(noise_number);
     let answer = plan_short(
         width, height, cells, ceiling, budget, &mut moves, &mut table,
     );
@@ -83,40 +80,21 @@ fn noise_number(i: usize) -> u16 {
     (i % 1000 + 40000) as u16
 }
 
-fn fill_moves(moves: &mut [u8]) {
-    for i in 0..moves.len() {
-        moves[i] = noise_byte(i);
-    }
-}
-
-fn fill_table(table: &mut [u16]) {
-    for i in 0..table.len() {
-        table[i] = noise_number(i);
-    }
-}
-
-fn print_answer(rt: &impl Print, answer: Answer, moves: &[u8; 120]) -> io::Result<()> {
-    print!(rt; "{}", number(answer))?;
-    print_field(rt, cell(answer))?;
-    print_field(rt, plan_length(answer))?;
-    print_field(rt, visits(answer) as usize)?;
-    print_letters(rt, plan_length(answer), moves)
-}
-
-// A number with a space before it.
-fn print_field(rt: &impl Print, n: usize) -> io::Result<()> {
-    print!(rt; " {n}")
-}
-
-fn print_letters(rt: &impl Print, length: usize, moves: &[u8; 120]) -> io::Result<()> {
-    print!(rt; " ")?;
+fn print_answer(
+    rt: &impl Print,
+    answer: Result<Plan, Refusal>,
+    moves: &[u8; 120],
+) -> io::Result<()> {
+    let number = answer.number();
+    let cell = answer.place();
+    let length = plan_length(answer);
+    let visits = visits(answer);
+    print!(rt; "{number} {cell} {length} {visits} ")?;
     if length == 0 {
         print!(rt; "-")?;
     }
-    for i in 0..120 {
-        if i < length {
-            print_letter(rt, moves[i])?;
-        }
+    for m in moves.iter().take(length) {
+        print_letter(rt, *m)?;
     }
     Ok(())
 }
@@ -140,114 +118,93 @@ fn print_buffers(
     table: &[u16; 484],
 ) -> io::Result<()> {
     let rows = rows_of(ceiling);
-    let zeros = all_zeros(rows, table);
+    let zeros = table.iter().take(rows).all(|n| *n == 0);
     print_yes(rt, zeros)?;
-    let kept = moves_kept(length, moves);
-    if zeros {
-        print_yes(rt, kept && table_kept(rows, table))?;
-    } else {
-        print_yes(rt, kept && table_kept(0, table))?;
-    }
+    let from = if zeros { rows } else { 0 };
+    print_yes(
+        rt,
+        kept(length, moves, noise_byte) && kept(from, table, noise_number),
+    )?;
     println!(rt)
 }
 
 fn print_yes(rt: &impl Print, yes: bool) -> io::Result<()> {
-    if yes {
-        print!(rt; " yes")
-    } else {
-        print!(rt; " no")
-    }
+    let word = if yes { "yes" } else { "no" };
+    print!(rt; " {word}")
 }
 
 // 4 × (ceiling + 1); the whole table for a ceiling that is refused.
 fn rows_of(ceiling: i32) -> usize {
-    if ceiling < 0 || 120 < ceiling {
-        return 484;
+    match ceiling {
+        0..=120 => 4 * (ceiling as usize + 1),
+        _ => 484,
     }
-    4 * (ceiling as usize + 1)
 }
 
-// The first n table numbers are 0.
-fn all_zeros(n: usize, table: &[u16; 484]) -> bool {
-    for i in 0..484 {
-        if i < n && table[i] != 0 {
-            return false;
-        }
-    }
-    true
+// What stands in a buffer from place n on is the noise.
+fn kept<T: PartialEq + Copy, F: Fn(usize) -> T>(n: usize, buffer: &[T], noise: F) -> bool
+    requires { F.IsAlwaysCallable noise }
+{
+    buffer
+        .iter()
+        .enumerate()
+        .skip(n)
+        .all(|(i, x)| *x == noise(i))
 }
 
-// The move bytes from place n on are the noise.
-fn moves_kept(n: usize, moves: &[u8; 120]) -> bool {
-    for i in 0..120 {
-        if n <= i && moves[i] != noise_byte(i) {
-            return false;
-        }
-    }
-    true
-}
-
-// The table numbers from place n on are the noise.
-fn table_kept(n: usize, table: &[u16; 484]) -> bool {
-    for i in 0..484 {
-        if n <= i && table[i] != noise_number(i) {
-            return false;
-        }
-    }
-    true
-}
+// What is planned: width, height and cells, the ceiling, the budget, p and q, and the room.
+type Case = (u32, u32, &'static [u8], i32, u32, u32, u32, usize);
 
 // The worked table, in its order: weight 1 over 1, buffers long enough. Where the distance is above the ceiling it is 10 after one visit.
-fn worked(rt: &impl Print) -> io::Result<()> {
-    show(rt, 2, 2, &[0, 1, 2, 3], 0, 1, 1, 1, 484)?;
-    show(rt, 2, 2, &[1, 0, 2, 3], 1, 2, 1, 1, 484)?;
-    show(rt, 2, 2, &[1, 0, 2, 3], 1, 1, 1, 1, 484)?;
-    show(rt, 2, 2, &[1, 0, 2, 3], 0, 1, 1, 1, 484)?;
-    show(rt, 2, 2, &[3, 2, 1, 0], 6, 7, 1, 1, 484)?;
-    show(rt, 2, 2, &[3, 2, 1, 0], 5, 11, 1, 1, 484)?;
-    show(rt, 2, 2, &[3, 2, 1, 0], 5, 10, 1, 1, 484)?;
-    show(rt, 2, 2, &[0, 3, 1, 2], 4, 5, 1, 1, 484)?;
-    show(rt, 2, 2, &[0, 3, 1, 2], 3, 7, 1, 1, 484)?;
-    show(rt, 3, 2, &[0, 2, 1, 3, 5, 4], 2, 8, 1, 1, 484)?;
-    show(rt, 3, 2, &[0, 2, 1, 3, 5, 4], 2, 7, 1, 1, 484)?;
-    show(rt, 2, 2, &[0, 2, 1, 3], 6, 9, 1, 1, 484)?;
-    show(rt, 2, 2, &[0, 1, 1, 4], 6, 9, 1, 1, 484)?;
-    show(rt, 2, 2, &[0, 1, 1, 3], 6, 9, 1, 1, 484)
-}
+const WORKED: [Case; 14] = [
+    (2, 2, &[0, 1, 2, 3], 0, 1, 1, 1, 484),
+    (2, 2, &[1, 0, 2, 3], 1, 2, 1, 1, 484),
+    (2, 2, &[1, 0, 2, 3], 1, 1, 1, 1, 484),
+    (2, 2, &[1, 0, 2, 3], 0, 1, 1, 1, 484),
+    (2, 2, &[3, 2, 1, 0], 6, 7, 1, 1, 484),
+    (2, 2, &[3, 2, 1, 0], 5, 11, 1, 1, 484),
+    (2, 2, &[3, 2, 1, 0], 5, 10, 1, 1, 484),
+    (2, 2, &[0, 3, 1, 2], 4, 5, 1, 1, 484),
+    (2, 2, &[0, 3, 1, 2], 3, 7, 1, 1, 484),
+    (3, 2, &[0, 2, 1, 3, 5, 4], 2, 8, 1, 1, 484),
+    (3, 2, &[0, 2, 1, 3, 5, 4], 2, 7, 1, 1, 484),
+    (2, 2, &[0, 2, 1, 3], 6, 9, 1, 1, 484),
+    (2, 2, &[0, 1, 1, 4], 6, 9, 1, 1, 484),
+    (2, 2, &[0, 1, 1, 3], 6, 9, 1, 1, 484),
+];
 
 // The sentences under the table, in their order: the ceiling, the weight, the table's length.
-fn boundaries(rt: &impl Print) -> io::Result<()> {
-    show(rt, 2, 2, &[3, 2, 1, 0], -1, 7, 1, 1, 484)?;
-    show(rt, 2, 2, &[3, 2, 1, 0], 121, 7, 1, 1, 484)?;
-    show(rt, 5, 2, &[3, 2, 1, 0], -1, 7, 1, 1, 484)?;
-    show(rt, 2, 2, &[1, 0, 2, 3], 1, 2, 1, 2, 484)?;
-    show(rt, 2, 2, &[1, 0, 2, 3], 1, 2, 65, 1, 484)?;
-    show(rt, 2, 2, &[1, 0, 2, 3], 1, 2, 64, 1, 484)?;
-    show(rt, 2, 2, &[0, 1, 2, 3], 120, 1, 1, 1, 483)?;
-    show(rt, 2, 2, &[0, 1, 2, 3], 120, 1, 1, 1, 484)
-}
+const BOUNDARIES: [Case; 8] = [
+    (2, 2, &[3, 2, 1, 0], -1, 7, 1, 1, 484),
+    (2, 2, &[3, 2, 1, 0], 121, 7, 1, 1, 484),
+    (5, 2, &[3, 2, 1, 0], -1, 7, 1, 1, 484),
+    (2, 2, &[1, 0, 2, 3], 1, 2, 1, 2, 484),
+    (2, 2, &[1, 0, 2, 3], 1, 2, 65, 1, 484),
+    (2, 2, &[1, 0, 2, 3], 1, 2, 64, 1, 484),
+    (2, 2, &[0, 1, 2, 3], 120, 1, 1, 1, 483),
+    (2, 2, &[0, 1, 2, 3], 120, 1, 1, 1, 484),
+];
 
 // A call with two faults is refused for the one that is tested first.
-fn order_of_tests(rt: &impl Print) -> io::Result<()> {
-    show(rt, 2, 2, &[0, 1, 1, 4], -1, 0, 1, 2, 0)?;
-    show(rt, 2, 2, &[0, 2, 1, 3], 121, 0, 1, 2, 0)?;
-    show(rt, 2, 2, &[0, 2, 1, 3], 120, 0, 1, 2, 483)?;
-    show(rt, 2, 2, &[0, 2, 1, 3], 120, 1000001, 1, 2, 483)?;
-    show(rt, 2, 2, &[0, 2, 1, 3], 120, 1000000, 1, 0, 483)?;
-    show(rt, 2, 2, &[0, 2, 1, 3], 120, 1000000, 2, 2, 483)?;
-    show(rt, 2, 2, &[0, 2, 1, 3], 120, 1000000, 63, 35, 483)?;
-    show(rt, 2, 2, &[0, 2, 1, 3], 120, 1000000, 1, 1, 483)?;
-    show(rt, 2, 2, &[0, 2, 1, 3], 120, 1000000, 1, 1, 484)
-}
+const ORDER_OF_TESTS: [Case; 9] = [
+    (2, 2, &[0, 1, 1, 4], -1, 0, 1, 2, 0),
+    (2, 2, &[0, 2, 1, 3], 121, 0, 1, 2, 0),
+    (2, 2, &[0, 2, 1, 3], 120, 0, 1, 2, 483),
+    (2, 2, &[0, 2, 1, 3], 120, 1000001, 1, 2, 483),
+    (2, 2, &[0, 2, 1, 3], 120, 1000000, 1, 0, 483),
+    (2, 2, &[0, 2, 1, 3], 120, 1000000, 2, 2, 483),
+    (2, 2, &[0, 2, 1, 3], 120, 1000000, 63, 35, 483),
+    (2, 2, &[0, 2, 1, 3], 120, 1000000, 1, 1, 483),
+    (2, 2, &[0, 2, 1, 3], 120, 1000000, 1, 1, 484),
+];
 
 // Plans the next job of standard input. No where there is none.
 fn show_next(rt: &impl Print, input: &mut impl Read) -> io::Result<bool> {
     let width = next_number(input)?;
     let height = next_number(input)?;
-    let count = cell_count(width, height);
-    if count == 0 {
+    let Some(count) = cell_count(width, height) else {
         return Ok(false);
-    }
+    };
     let mut cells = [0u8; 16];
     show_job(rt, input, width, height, &mut cells[..count])?;
     Ok(true)
@@ -269,14 +226,14 @@ fn show_job(
     show(rt, width, height, cells, ceiling, budget, p, q, 484)
 }
 
-// How many cells a cabinet has; 0 for sides that none has.
-fn cell_count(width: u32, height: u32) -> usize
-    ensures { result ≤ 16 }
+// How many cells a cabinet has. None for sides that no cabinet has.
+fn cell_count(width: u32, height: u32) -> Option<usize>
+    ensures { IfSome result (λ n. n ≤ 16) }
 {
-    if 4 < width || 4 < height {
-        return 0;
+    match (width, height) {
+        (1..=4, 1..=4) => Some(width as usize * height as usize),
+        _ => None,
     }
-    width as usize * height as usize
 }
 
 // Plans every job of standard input.
@@ -290,9 +247,15 @@ fn jobs(rt: &impl Print, input: &mut impl Read) -> io::Result<()> {
 }
 
 fn main(rt: HostRuntime) -> io::Result<()> {
-    worked(&rt)?;
-    boundaries(&rt)?;
-    order_of_tests(&rt)?;
+    for (width, height, cells, ceiling, budget, p, q, room) in WORKED {
+        show(&rt, width, height, cells, ceiling, budget, p, q, room)?;
+    }
+    for (width, height, cells, ceiling, budget, p, q, room) in BOUNDARIES {
+        show(&rt, width, height, cells, ceiling, budget, p, q, room)?;
+    }
+    for (width, height, cells, ceiling, budget, p, q, room) in ORDER_OF_TESTS {
+        show(&rt, width, height, cells, ceiling, budget, p, q, room)?;
+    }
     show_short(&rt, 2, 2, &[3, 2, 1, 0], 6, 7)?;
     show_short(&rt, 2, 3, &[5, 2, 1, 0, 3, 4], 20, 18)?;
     jobs(&rt, &mut rt.stdin())

@@ -11,8 +11,8 @@ use lib.Dec.{ltb}
 use lib.ListN.{length, drop, get_or}
 use borrow.Author.Tests.{ltb-true, ltb-false, lt-ltb, le-ltb}
 use Rattle.board.specs.declared.Shape.{Shape}
-use Rattle.board.specs.declared.Tested.{Tested}
-use Rattle.board.specs.declared.Tested.TheVariants.{Sound, Faulty}
+use Rattle.board.specs.declared.Fault.{Fault}
+use Rattle.std.specs.Prelude.{Result, Ok, Err}
 use Rattle.board.specs.Shape.{cells}
 use Rattle.board.specs.Board.{goal, is_goal}
 use Rattle.board.specs.Lists.{LegalList, end_board}
@@ -20,8 +20,7 @@ use Rattle.board.specs.Faults.{tested}
 use Rattle.board.proofs.Laws.{sound_means, faultless-sound, list_board, is_goal-sound, is_goal-complete}
 use Rattle.player.specs.declared.PlayRefusal.{PlayRefusal}
 use Rattle.player.specs.declared.PlayRefusal.TheVariants.{ShortOutput}
-use Rattle.player.specs.declared.Played.{Played}
-use Rattle.player.specs.declared.Played.TheVariants.{End, Refused}
+use Rattle.player.specs.Play.{Played}
 use Rattle.player.specs.Play.{first_bad, bad_move, comes_to, answer_on, answer_after, answer_for, out_after, PlayedAs}
 use Rattle.player.specs.Cases.{OnCabinet, FirstBadAt, CaseOf, faulty, short, no_move, off_grid, played}
 use Rattle.player.proofs.theory.FirstBad.{first-bad-within, no_bad-move, first-bad-move}
@@ -48,11 +47,11 @@ module _ (s : Shape) (b moves : List ℕ) (on : OnCabinet s b) where
   module _ (room : ℕ) where
     -- ---- the answer has its case
 
-    bad_case : (i : ℕ) → cells s ≤ room → FirstBadAt s b moves i → CaseOf s b moves room (Refused (bad_move (get_or moves i 0) i))
+    bad_case : (i : ℕ) → cells s ≤ room → FirstBadAt s b moves i → CaseOf s b moves room (Err (bad_move (get_or moves i 0) i))
     unfolding bad_move
     bad_case i enough first = go (ltb 3 (get_or moves i 0)) refl
       where
-        go : (t : Bool) → ltb 3 (get_or moves i 0) ≡ t → CaseOf s b moves room (Refused (bad_move (get_or moves i 0) i))
+        go : (t : Bool) → ltb 3 (get_or moves i 0) ≡ t → CaseOf s b moves room (Err (bad_move (get_or moves i 0) i))
         go true e = rw e (no_move i on enough first (ltb-true _ _ e))
         go false e = rw e (off_grid i on enough first (ltb-false _ _ e))
 
@@ -84,7 +83,7 @@ module _ (s : Shape) (b moves : List ℕ) (on : OnCabinet s b) where
     unfolding answer_after
     sound-answer = rw (faultless-sound s b on.shape on.board)
 
-    short-answer : room < cells s → answer_for s.width s.height b moves room ≡ Refused ShortOutput
+    short-answer : room < cells s → answer_for s.width s.height b moves room ≡ Err ShortOutput
     unfolding answer_on
     short-answer less = sound-answer ∙ rw (lt-ltb room (cells s) less)
 
@@ -98,7 +97,7 @@ module _ (s : Shape) (b moves : List ℕ) (on : OnCabinet s b) where
         (i : ℕ)
         → cells s ≤ room
         → FirstBadAt s b moves i
-        → answer_for s.width s.height b moves room ≡ Refused (bad_move (get_or moves i 0) i)
+        → answer_for s.width s.height b moves room ≡ Err (bad_move (get_or moves i 0) i)
     unfolding comes_to
     bad-answer i enough first =
         let is : first_bad s b moves ≡ i = (first-bad-move s b moves i first.inside).1 (first.before, first.bad) in
@@ -107,7 +106,7 @@ module _ (s : Shape) (b moves : List ℕ) (on : OnCabinet s b) where
     end-answer :
         cells s ≤ room
         → LegalList s b moves
-        → answer_for s.width s.height b moves room ≡ End (is_goal s (end_board s b moves))
+        → answer_for s.width s.height b moves room ≡ Ok (is_goal s (end_board s b moves))
     unfolding comes_to
     end-answer enough plays =
         list_answer enough
@@ -124,9 +123,9 @@ answer_case width height b moves room = go (tested width height b) refl
     s : Shape
     s = record { width = width; height = height }
 
-    go : (t : Tested) → tested width height b ≡ t → CaseOf s b moves room (answer_after t b moves room)
-    go (Faulty fault) e = faulty fault e
-    go (Sound shape) e =
+    go : (t : Result Shape Fault) → tested width height b ≡ t → CaseOf s b moves room (answer_after t b moves room)
+    go (Err fault) e = faulty fault e
+    go (Ok shape) e =
         let means = sound_means width height b shape e in
         let good : OnCabinet shape b = record { shape = means.1; board = means.2 } in
         rw means.0 (sound_case s b moves (rw means.0 at good) room)
@@ -144,26 +143,26 @@ case_answer s b moves room answer (off_grid i on enough first below) =
     sym (bad-answer s b moves on room i enough first ∙ rw (le-ltb 3 (get_or moves i 0) below))
 case_answer s b moves room answer (played says on enough plays iff) =
     let ends = goal_iff s b moves on plays in
-    ap End (same_test says (is_goal s (end_board s b moves)) (λ e. ends.1 (iff.0 e)) (λ e. iff.1 (ends.0 e)))
+    ap Ok (same_test says (is_goal s (end_board s b moves)) (λ e. ends.1 (iff.0 e)) (λ e. iff.1 (ends.0 e)))
     ∙ sym (end-answer s b moves on room enough plays)
 
 -- ---- the output afterwards
 
 pub refusal-leaves :
     (width height : ℕ) (b moves found out : List ℕ) (why : PlayRefusal)
-    → PlayedAs width height b moves found (Refused why) out
+    → PlayedAs width height b moves found (Err why) out
     → out ≡ found
 unfolding out_after
 refusal-leaves width height b moves found out why as_said = as_said.leaves
 
 pub end_leaves :
     (s : Shape) (b moves found out : List ℕ) (says : Bool)
-    → PlayedAs s.width s.height b moves found (End says) out
+    → PlayedAs s.width s.height b moves found (Ok says) out
     → out ≡ end_board s b moves ++ drop (cells s) found
 unfolding out_after
 end_leaves s b moves found out says as_said =
     let its-case = rw (← as_said.answers) at (answer_case s.width s.height b moves (length found)) in
     as_said.leaves ∙ ap (λ n. end_board s b moves ++ drop n found) (long its-case)
   where
-    long : CaseOf s b moves (length found) (End says) → length (end_board s b moves) ≡ cells s
+    long : CaseOf s b moves (length found) (Ok says) → length (end_board s b moves) ≡ cells s
     long (played y on enough plays iff) = (list_board s on.shape moves b on.board plays).long

@@ -4,7 +4,7 @@ use Prim.Native.Nat.{ℕ}
 use mathlib.Core.Path.{◌≡◌, sym, ap, ◌∙◌}
 use mathlib.Core.List.{List}
 use Rattle.board.specs.Lists.{end_board}
-use Rattle.player.specs.declared.Played.{Played}
+use Rattle.player.specs.Play.{Played}
 use Rattle.player.specs.Play.{out_after, PlayedAs}
 
 pub settled :

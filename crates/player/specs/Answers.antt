@@ -2,10 +2,11 @@
 -- and whether the end board is the goal. One function a field, one line a case. Assumes nothing.
 use Rattle.std.specs.Prelude.{ℕ, Bool, false}
 use Rattle.board.specs.Faults.{fault_number, fault_cell}
+use Rattle.board.specs.Numbered.{of_refused}
 use Rattle.player.specs.declared.PlayRefusal.{PlayRefusal}
 use Rattle.player.specs.declared.PlayRefusal.TheVariants.{Board, ShortOutput, NoMove, OffGrid}
-use Rattle.player.specs.declared.Played.{Played}
-use Rattle.player.specs.declared.Played.TheVariants.{End, Refused}
+use Rattle.player.specs.Play.{Played}
+use Rattle.std.specs.Prelude.{Ok, Err}
 
 abbrev pub refusal_number : PlayRefusal → ℕ
 refusal_number (Board fault) = fault_number fault
@@ -20,13 +21,11 @@ refusal_place (NoMove i) = i
 refusal_place (OffGrid i) = i
 
 abbrev pub answer_number : Played → ℕ
-answer_number (End goal) = 0
-answer_number (Refused why) = refusal_number why
+answer_number answer = of_refused refusal_number answer
 
 abbrev pub answer_place : Played → ℕ
-answer_place (End goal) = 0
-answer_place (Refused why) = refusal_place why
+answer_place answer = of_refused refusal_place answer
 
 abbrev pub says_goal : Played → Bool
-says_goal (End goal) = goal
-says_goal (Refused why) = false
+says_goal (Ok goal) = goal
+says_goal (Err why) = false

@@ -4,15 +4,14 @@
 use Rattle.std.specs.Prelude.{ℕ, ◌≤◌, ◌<◌, ◌≡◌, ◌↔◌, Bool, true, false, List, length, take, get_or}
 use Rattle.board.specs.declared.Shape.{Shape}
 use Rattle.board.specs.declared.Fault.{Fault}
-use Rattle.board.specs.declared.Tested.TheVariants.{Faulty}
+use Rattle.std.specs.Prelude.{Ok, Err}
 use Rattle.board.specs.Shape.{cells, GoodShape}
 use Rattle.board.specs.Board.{IsBoard, goal}
 use Rattle.board.specs.Moves.{legal}
 use Rattle.board.specs.Lists.{LegalList, end_board}
 use Rattle.board.specs.Faults.{tested}
 use Rattle.player.specs.declared.PlayRefusal.TheVariants.{Board, ShortOutput, NoMove, OffGrid}
-use Rattle.player.specs.declared.Played.{Played}
-use Rattle.player.specs.declared.Played.TheVariants.{End, Refused}
+use Rattle.player.specs.Play.{Played}
 
 -- a board of the shape
 pub record OnCabinet (s : Shape) (b : List ℕ) : Type 0 where
@@ -27,15 +26,15 @@ pub record FirstBadAt (s : Shape) (b moves : List ℕ) (i : ℕ) : Type 0 where
 
 pub data CaseOf (s : Shape) (b moves : List ℕ) (room : ℕ) : Played → Type 0 where
   -- 1 to 4
-  faulty : (fault : Fault) → tested s.width s.height b ≡ Faulty fault → CaseOf s b moves room (Refused (Board fault))
+  faulty : (fault : Fault) → tested s.width s.height b ≡ Err fault → CaseOf s b moves room (Err (Board fault))
   -- 8
-  short : OnCabinet s b → room < cells s → CaseOf s b moves room (Refused ShortOutput)
+  short : OnCabinet s b → room < cells s → CaseOf s b moves room (Err ShortOutput)
   -- 13
   no_move :
-      (i : ℕ) → OnCabinet s b → cells s ≤ room → FirstBadAt s b moves i → 3 < get_or moves i 0 → CaseOf s b moves room (Refused (NoMove i))
+      (i : ℕ) → OnCabinet s b → cells s ≤ room → FirstBadAt s b moves i → 3 < get_or moves i 0 → CaseOf s b moves room (Err (NoMove i))
   -- 14
   off_grid :
-      (i : ℕ) → OnCabinet s b → cells s ≤ room → FirstBadAt s b moves i → get_or moves i 0 ≤ 3 → CaseOf s b moves room (Refused (OffGrid i))
+      (i : ℕ) → OnCabinet s b → cells s ≤ room → FirstBadAt s b moves i → get_or moves i 0 ≤ 3 → CaseOf s b moves room (Err (OffGrid i))
   -- the whole list is legal: yes exactly if it ends at the goal
   played :
       (says : Bool)
@@ -43,4 +42,4 @@ pub data CaseOf (s : Shape) (b moves : List ℕ) (room : ℕ) : Played → Type 
       → cells s ≤ room
       → LegalList s b moves
       → (says ≡ true) ↔ (end_board s b moves ≡ goal s)
-      → CaseOf s b moves room (End says)
+      → CaseOf s b moves room (Ok says)

@@ -1,29 +1,26 @@
 // The player: plays a list of moves on a board, and says where it ends or which move is bad.
 //
 // specs/Play.antt has the whole answer and the output afterwards; proofs/Promises.antt says both in terms of the board's own legal
-// lists, and proofs/Settled.antt that nothing is left open. `play` is the call; `list` runs the moves; `answers` reads an answer.
+// lists, and proofs/Settled.antt that nothing is left open. `play` is the call; `list` runs the moves; `answers` has the number and the
+// place of a refusal.
 
 #![tactic(auto)]
 
-pub mod answers;
+mod answers;
 mod list;
 
-ghost use Rattle.std.specs.Prelude.{◌≡◌, ◌≤◌, length};
-ghost use Rattle.board.specs.Shape.{cells, GoodShape};
-ghost use Rattle.board.specs.Board.{IsBoard};
-ghost use Rattle.board.specs.Held.{held};
-ghost use Rattle.board.specs.Distance.{NearTable};
-ghost use Rattle.board.specs.Change.{Kept};
-ghost use Rattle.player.specs.Play.{PlayedAs, PlayedOn, comes_to};
+ghost use Rattle.std.specs.Prelude.{◌≡◌};
+ghost use Rattle.player.specs.declared.PlayRefusal.TheVariants.{Board};
+ghost use Rattle.player.specs.Play.{PlayedAs};
 
-use crate::list::{put, refused_move, run};
-use board::distance::{distance, near_table};
+use crate::list::run;
+use board::cabinet::Cabinet;
 use board::faults::tested;
-use board::held::{cell_count, hold};
-use board::{Fault, Position, Shape, Tested};
+use board::held::{cell_count, hold, put};
+use board::{Fault, Place};
 
 // Why a list is not played: the paper's numbers, in its order.
-#[derive(Clone, Copy)]
+#[derive(Clone, Copy, Debug, PartialEq, Eq)]
 pub enum PlayRefusal {
     // 1 to 4: a fault of the width, the height or the board
     Board(Fault),
@@ -35,71 +32,35 @@ pub enum PlayRefusal {
     OffGrid(usize),
 }
 
-// What playing a list comes to.
-#[derive(Clone, Copy)]
-pub enum Played {
-    // The whole list was played: yes exactly if the end board is the goal. The end board stands in the output.
-    End(bool),
-    // The output is as it was found.
-    Refused(PlayRefusal),
-}
+impl From<Fault> for PlayRefusal {
+    ghost from_gives = { λ fault refusal. refusal ≡ Board fault };
 
-// Plays the moves on the board. Takes any input.
-pub fn play(width: u32, height: u32, board: &[u8], moves: &[u8], out: &mut [u8]) -> Played
-    ensures { PlayedAs width height board.now moves.now out.old result out.new }
-{
-    match tested(width, height, board) {
-        Tested::Faulty(fault) => Played::Refused(PlayRefusal::Board(fault)),
-        Tested::Sound(shape) => play_sound(shape, board, moves, out),
+    fn from(fault: Fault) -> PlayRefusal {
+        PlayRefusal::Board(fault)
     }
 }
 
-// After tests 1 to 4: test 8, and then the list. The first board is summed here, and its distance is kept from then on.
-fn play_sound(shape: Shape, board: &[u8], moves: &[u8], out: &mut [u8]) -> Played
-    requires good_shape { GoodShape shape }
-    requires board { IsBoard shape board.now }
-    ensures { PlayedOn shape board.now moves.now out.old result out.new }
-{
-    if out.len() < cell_count(shape) {
-        return Played::Refused(PlayRefusal::ShortOutput);
-    }
-    let start = hold(shape, board);
-    let near = near_table(shape);
-    let h = distance(shape, start, &near);
-    play_held(shape, start, h, &near, moves, out)
-}
-
-// After test 8. The output is written once the whole list was found good.
-fn play_held(
-    shape: Shape,
-    start: Position,
-    h: usize,
-    near: &[u8; 1024],
+// Plays the moves on the board: whether they end at the goal, with the end board at the start of the output. A refusal leaves the output as
+// it was found. Takes any input. The first board is summed here, and its distance is kept from then on; the output is written once the
+// whole list was found good.
+pub fn play(
+    width: u32,
+    height: u32,
+    board: &[u8],
     moves: &[u8],
     out: &mut [u8],
-) -> Played
-    requires kept { Kept shape start h }
-    requires near_table { NearTable shape near.now }
-    requires shape_in_bounds { cells shape ≤ length out.old }
-    ensures { PlayedOn shape (held shape start) moves.now out.old result out.new }
+) -> Result<bool, PlayRefusal>
+    ensures { PlayedAs width height board.now moves.now out.old result out.new }
 {
-    let ran = run(shape, start, h, near, moves);
-    let bad = ran.bad;
-    let end = ran.end;
-    if bad == moves.len() {
-        put(shape, end, out);
+    let shape = tested(width, height, board)?;
+    if out.len() < cell_count(shape) {
+        return Err(PlayRefusal::ShortOutput);
     }
-    come_to(shape, end, ran.h, bad, moves)
-}
-
-// What a run comes to that ended at the place `bad`: the end is the goal exactly if the distance that was kept is 0.
-fn come_to(shape: Shape, end: Position, h: usize, bad: usize, moves: &[u8]) -> Played
-    requires { Kept shape end h }
-    ensures { result ≡ comes_to shape (held shape end) moves.now bad }
-{
-    if bad < moves.len() {
-        return Played::Refused(refused_move(moves[bad], bad));
-    }
-    let goal = h == 0;
-    Played::End(goal)
+    let start = hold(shape, board);
+    let cabinet = Cabinet::new(shape);
+    let h = cabinet.distance(start);
+    let place = Place { position: start, h };
+    let end = run(&cabinet, place, moves)?;
+    put(shape, end.position, out);
+    Ok(end.h == 0)
 }

@@ -9,12 +9,11 @@ use native.Mathlib.Omega.{arith}
 use lib.IntN.{pos}
 use lib.ListN.{length, get_or, take, drop, replicate}
 use lib.Seq.{take_at}
+use Rattle.std.specs.Prelude.{Result, Ok, Err}
 use Rattle.board.specs.Tests.{FirstToHold, NoneHolds}
 use Rattle.board.specs.Lists.{Solves}
 use Rattle.planner.specs.Limits.{CommonDivisor}
 use Rattle.records.specs.declared.PlanRefusal.{PlanRefusal}
-use Rattle.records.specs.declared.Written.{Written}
-use Rattle.records.specs.declared.Written.TheVariants.{Record, Refused}
 use Rattle.records.specs.Groups.{groups, worth, Grouped, Spells}
 use Rattle.records.specs.Record.{record_of}
 use Rattle.records.specs.Write.{Given, fields_of, shape_of, write_tests, written, Settles}
@@ -45,22 +44,22 @@ groups_five n small = five-groups n small
 
 module _ (g : Given) (found : List ℕ) where
   -- a refusal is given exactly when its condition is the first that holds
-  pub refused_exactly : (r : PlanRefusal) → ((written g found).answer ≡ Refused r) ↔ FirstToHold (write_tests g found) r
+  pub refused_exactly : (r : PlanRefusal) → ((written g found).answer ≡ Err r) ↔ FirstToHold (write_tests g found) r
   unfolding written
   refused_exactly r = refused_by (record_of (fields_of g)) found (write_tests g found) r
 
   -- and otherwise the record's length is answered
   pub else_written : (k : ℕ)
-      → ((written g found).answer ≡ Record k) ↔ (NoneHolds (write_tests g found) × (k ≡ length (record_of (fields_of g))))
+      → ((written g found).answer ≡ Ok k) ↔ (NoneHolds (write_tests g found) × (k ≡ length (record_of (fields_of g))))
   unfolding written
   else_written k = recorded_by (record_of (fields_of g)) found (write_tests g found) k
 
   -- a refusal leaves the output as found
-  pub refusal-leaves : (r : PlanRefusal) → (written g found).answer ≡ Refused r → (written g found).out ≡ found
+  pub refusal-leaves : (r : PlanRefusal) → (written g found).answer ≡ Err r → (written g found).out ≡ found
   unfolding written
   refusal-leaves r e = refused-leaves (record_of (fields_of g)) found (write_tests g found) r e
 
-  module _ (k : ℕ) (e : (written g found).answer ≡ Record k) where
+  module _ (k : ℕ) (e : (written g found).answer ≡ Ok k) where
     fitting : Fitting g found
     fitting = passes g found ((else_written k).0 e).0
 
@@ -99,13 +98,13 @@ module _ (g : Given) (found : List ℕ) where
     record_fits = omega (arith, long, fitting.room)
 
 -- one has 149
-pub record_of_149 : (written longest (replicate 149 0)).answer ≡ Record 149
-record_of_149 = ap (λ answers. get_or answers 1 (Record 0)) called
+pub record_of_149 : (written longest (replicate 149 0)).answer ≡ Ok 149
+record_of_149 = ap (λ answers. get_or answers 1 (Ok 0)) called
 
 -- ---- nothing is left open
 
 -- any two results that the contract allows are equal
-pub one-result : (g : Given) (found : List ℕ) (answer other : Written) (out others : List ℕ)
+pub one-result : (g : Given) (found : List ℕ) (answer other : Result ℕ PlanRefusal) (out others : List ℕ)
     → Settles (written g found) answer out → Settles (written g found) other others → (answer ≡ other) × (out ≡ others)
 one-result g found answer other out others one two =
     (one.answers ∙ sym two.answers, one.leaves ∙ sym two.leaves)

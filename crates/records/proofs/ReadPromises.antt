@@ -11,6 +11,7 @@ use lib.IntN.{ℤ}
 use lib.ListN.{length, take, drop}
 use lib.Seq.{take_at, drop_at}
 use borrow.Author.Tests.{le-ltb}
+use Rattle.std.specs.Prelude.{Result, Ok, Err}
 use Rattle.board.specs.Tests.{NoneHolds}
 use Rattle.board.specs.Faults.{fault_tests}
 use Rattle.board.proofs.Laws.{none-split}
@@ -20,9 +21,6 @@ use Rattle.planner.proofs.theory.Lowest.{kept-lowest}
 use Rattle.records.specs.declared.PlanRefusal.TheVariants.{Board, Beyond}
 use Rattle.records.specs.declared.Numbers.{Numbers}
 use Rattle.records.specs.declared.ReadRefusal.{ReadRefusal}
-use Rattle.records.specs.declared.ReadAnswer.{ReadAnswer}
-use Rattle.records.specs.declared.ReadAnswer.TheVariants.{Fields as FieldsRead, Refused}
-use Rattle.records.specs.declared.Written.TheVariants.{Record}
 use Rattle.records.specs.Record.{Fields, record_of}
 use Rattle.records.specs.Write.{Given, given, fields_of, plan_tests, too_short, write_tests, written}
 use Rattle.records.specs.Form.{Bytes, IsRecord}
@@ -62,10 +60,10 @@ unfolding write_tests
 clear-plan g found clear =
     subst (λ (s : Bool). NoneHolds (plan_tests g s)) (room-passed g (too_short (record_of (fields_of g)) found) clear) clear
 
-pub written_reads : (g : Given) (found : List ℕ) (k : ℕ) → (written g found).answer ≡ Record k → (room : List ℕ)
+pub written_reads : (g : Given) (found : List ℕ) (k : ℕ) → (written g found).answer ≡ Ok k → (room : List ℕ)
     → length g.board + length g.moves ≤ length room
     → read_back (take k (written g found).out) room
-    ≡ record { answer = FieldsRead (numbers_for g); out = received g.board g.moves room }
+    ≡ record { answer = Ok (numbers_for g); out = received g.board g.moves room }
 written_reads g found k e room enough =
     let clear = ((else_written g found k).0 e).0 in
     let same : given_of (numbers_for g) g.board g.moves ≡ g =
@@ -83,7 +81,7 @@ passed-lowest g passed =
     let second = none-split Beyond (limit_tests g.ceiling g.visits g.p g.q) first.1 in
     kept-lowest (limits-kept g.ceiling g.visits g.p g.q second.0)
 
-module _ (bytes found : List ℕ) (each : Bytes bytes) (n : Numbers) (e : (read_back bytes found).answer ≡ FieldsRead n) where
+module _ (bytes found : List ℕ) (each : Bytes bytes) (n : Numbers) (e : (read_back bytes found).answer ≡ Ok n) where
   -- the plan as it was read: its numbers from the answer, its cells and moves from the output
   abbrev pub plan : Given
   plan = given_of n (cells_in n (read_back bytes found).out) (moves_in n (read_back bytes found).out)
@@ -112,7 +110,7 @@ module _ (bytes found : List ℕ) (each : Bytes bytes) (n : Numbers) (e : (read_
   read_record = taken.whole ∙ ap (λ (h : Given). record_of (fields_of h)) (sym plan-is)
 
   pub read-writes : (room : List ℕ) → length bytes ≤ length room
-      → ((written plan room).answer ≡ Record (length bytes)) × ((written plan room).out ≡ bytes ++ drop (length bytes) room)
+      → ((written plan room).answer ≡ Ok (length bytes)) × ((written plan room).out ≡ bytes ++ drop (length bytes) room)
   unfolding written write_tests
   read-writes room enough =
       let passed = subst (λ (h : Given). NoneHolds (plan_tests h false)) (sym plan-is) taken.passed in
@@ -138,7 +136,7 @@ module _ (bytes found : List ℕ) (each : Bytes bytes) (n : Numbers) (e : (read_
 
 -- no two different records are read to the same fields
 pub one_record : (bytes other found room : List ℕ) → Bytes bytes → Bytes other → (n : Numbers)
-    → (read_back bytes found).answer ≡ FieldsRead n → (read_back other room).answer ≡ FieldsRead n
+    → (read_back bytes found).answer ≡ Ok n → (read_back other room).answer ≡ Ok n
     → cells_in n (read_back bytes found).out ≡ cells_in n (read_back other room).out
     → moves_in n (read_back bytes found).out ≡ moves_in n (read_back other room).out
     → bytes ≡ other
@@ -165,7 +163,7 @@ numbers_of_fields f =
 -- with room for it: bytes are read to these fields exactly if they are a record of them
 pub accepts_exactly : (bytes found : List ℕ) → Bytes bytes → (f : Fields) → length f.cells ≡ f.width * f.height
     → length f.cells + length f.moves ≤ length found
-    → (read_back bytes found ≡ record { answer = FieldsRead (numbers_of_fields f); out = received f.cells f.moves found })
+    → (read_back bytes found ≡ record { answer = Ok (numbers_of_fields f); out = received f.cells f.moves found })
     ↔ IsRecord bytes f
 accepts_exactly bytes found each f count room = (
   λ e.
@@ -202,17 +200,17 @@ accepts_exactly bytes found each f count room = (
 
 module _ (bytes found : List ℕ) (why : ReadRefusal) where
   -- a refusal is given exactly when its condition is the first met: while the numbers are read, or else in the tests behind them
-  pub read-refused_exactly : ((read_back bytes found).answer ≡ Refused why) ↔ Met bytes found why
+  pub read-refused_exactly : ((read_back bytes found).answer ≡ Err why) ↔ Met bytes found why
   read-refused_exactly = (refused_met bytes found why, met_refused bytes found why)
 
   -- and leaves all of the output
-  pub read-refusal-leaves : (read_back bytes found).answer ≡ Refused why → (read_back bytes found).out ≡ found
+  pub read-refusal-leaves : (read_back bytes found).answer ≡ Err why → (read_back bytes found).out ≡ found
   read-refusal-leaves e = refused_keeps bytes found why e
 
 -- ---- nothing is left open
 
 -- any two results that the contract allows are equal
-pub one-reading : (bytes found : List ℕ) (answer other : ReadAnswer) (out others : List ℕ)
+pub one-reading : (bytes found : List ℕ) (answer other : Result Numbers ReadRefusal) (out others : List ℕ)
     → ReadSettles (read_back bytes found) answer out → ReadSettles (read_back bytes found) other others → (answer ≡ other) × (out ≡ others)
 one-reading bytes found answer other out others one two =
     (one.answers ∙ sym two.answers, one.leaves ∙ sym two.leaves)

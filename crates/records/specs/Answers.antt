@@ -1,12 +1,11 @@
 -- An answer's fields: the paper's number of each refusal, the faulty cell or the bad move's place (0 where none is meant), and the
 -- record's length (0 for a refusal). Assumes nothing.
-use Rattle.std.specs.Prelude.{ℕ}
+use Rattle.std.specs.Prelude.{ℕ, Result, Ok, Err}
 use Rattle.board.specs.Faults.{fault_number, fault_cell}
+use Rattle.board.specs.Numbered.{of_refused}
 use Rattle.planner.specs.Limits.{limit_number}
 use Rattle.records.specs.declared.PlanRefusal.{PlanRefusal}
 use Rattle.records.specs.declared.PlanRefusal.TheVariants.{Board, Beyond, TooLong, NoMove, OffGrid, NotSolved, ShortOutput}
-use Rattle.records.specs.declared.Written.{Written}
-use Rattle.records.specs.declared.Written.TheVariants.{Record, Refused}
 
 abbrev pub refusal_number : PlanRefusal → ℕ
 refusal_number (Board fault) = fault_number fault
@@ -26,14 +25,12 @@ refusal_place (OffGrid i) = i
 refusal_place NotSolved = 0
 refusal_place ShortOutput = 0
 
-abbrev pub answer_number : Written → ℕ
-answer_number (Record length) = 0
-answer_number (Refused why) = refusal_number why
+abbrev pub answer_number : Result ℕ PlanRefusal → ℕ
+answer_number answer = of_refused refusal_number answer
 
-abbrev pub answer_place : Written → ℕ
-answer_place (Record length) = 0
-answer_place (Refused why) = refusal_place why
+abbrev pub answer_place : Result ℕ PlanRefusal → ℕ
+answer_place answer = of_refused refusal_place answer
 
-abbrev pub record_length : Written → ℕ
-record_length (Record length) = length
-record_length (Refused why) = 0
+abbrev pub record_length : Result ℕ PlanRefusal → ℕ
+record_length (Ok length) = length
+record_length (Err why) = 0

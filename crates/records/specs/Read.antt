@@ -1,7 +1,8 @@
 -- Reading a record: its numbers in their order, each fault as it is met; then the tests behind them, the end and the mark and the tests
 -- of E1 over the fields as they were read; the answer and the output afterwards. Assumes nothing.
-use Rattle.std.specs.Prelude.{ℕ, ◌+◌, ◌*◌, ◌/◌, ◌%◌, ◌≤◌, ◌≡◌}
-use Rattle.std.specs.Prelude.{Bool, not, cond, ◌&&◌, List, [], ◌∷◌, ◌++◌, ltb, eqb, pos, length, get_or, take, drop}
+use Rattle.std.specs.Prelude.{ℕ, ◌+◌, ◌*◌, ◌/◌, ◌%◌, ◌≤◌, ◌≡◌, min}
+use Rattle.std.specs.Prelude.{Bool, not, ◌&&◌, List, [], ◌∷◌, ◌++◌, ltb, eqb, pos, length, get_or, take, drop}
+use Rattle.std.specs.Prelude.{Result, Ok, Err}
 use Rattle.std.proofs.Math.Option.{Option, none, some}
 use Rattle.board.specs.Shape.{Side}
 use Rattle.board.specs.Tests.{Test, test, first_refusal, under}
@@ -9,23 +10,19 @@ use Rattle.records.specs.declared.Numbers.{Numbers}
 use Rattle.records.specs.declared.PlanRefusal.{PlanRefusal}
 use Rattle.records.specs.declared.ReadRefusal.{ReadRefusal}
 use Rattle.records.specs.declared.ReadRefusal.TheVariants.{CutShort, BytesAfter, WrongMark, Plan}
-use Rattle.records.specs.declared.ReadAnswer.{ReadAnswer}
-use Rattle.records.specs.declared.ReadAnswer.TheVariants.{Fields as FieldsRead, Refused}
-use Rattle.records.specs.declared.ends.Ended.{Ended}
-use Rattle.records.specs.declared.ends.Ended.TheVariants.{Whole, Faulty as EndFaulty}
 use Rattle.records.specs.declared.PlanRefusal.TheVariants.{ShortOutput}
-use Rattle.records.specs.declared.scan.Counted.{Counted}
-use Rattle.records.specs.declared.scan.Counted.TheVariants.{Next, Faulty}
 use Rattle.records.specs.Mark.{mark}
 use Rattle.records.specs.Write.{Given, given, plan_tests}
-use Rattle.records.specs.Scan.{side_at, length_at, numbers_at, behind, behind_all, Several, numbers, stopped}
+use Rattle.records.specs.Scan.{Found, found, side_at, length_at, numbers_at, behind}
 
 -- ---- the numbers
 
 -- what the numbers come to: all of them, the cells apart, with the place of the moves; or the first fault
-pub data Begun : Type 0 where
-  begun : Numbers → List ℕ → ℕ → Begun
-  halted : ReadRefusal → Begun
+abbrev pub Begun : Type 0
+Begun = Result (Numbers × List ℕ × ℕ) ReadRefusal
+
+abbrev pub begun : Numbers → List ℕ → ℕ → Begun
+begun n cells at = Ok (n, cells, at)
 
 abbrev pub numbers_of : ℕ → ℕ → List ℕ → ℕ → Numbers
 numbers_of width height plan moves =
@@ -42,21 +39,21 @@ numbers_of width height plan moves =
 -- from the length on, the numbers before it known; from ceiling, p, q and visits on; from the cells on; from the height on
 unfoldable pub length_on : List ℕ → ℕ → ℕ → List ℕ → List ℕ → ℕ → Begun
 length_on bytes width height cells plan at =
-    behind halted (length_at bytes at) λ moves next. begun (numbers_of width height plan moves) cells next
+    behind (length_at bytes at) λ moves next. begun (numbers_of width height plan moves) cells next
 
 unfoldable pub plan_on : List ℕ → ℕ → ℕ → List ℕ → ℕ → Begun
-plan_on bytes width height cells at = behind_all halted (numbers_at 4 bytes at) λ plan next. length_on bytes width height cells plan next
+plan_on bytes width height cells at = behind (numbers_at 4 bytes at) λ plan next. length_on bytes width height cells plan next
 
 unfoldable pub cells_on : List ℕ → ℕ → ℕ → ℕ → Begun
 cells_on bytes width height at =
-    behind_all halted (numbers_at (width * height) bytes at) λ cells next. plan_on bytes width height cells next
+    behind (numbers_at (width * height) bytes at) λ cells next. plan_on bytes width height cells next
 
 unfoldable pub height_on : List ℕ → ℕ → ℕ → Begun
-height_on bytes width at = behind halted (side_at bytes at) λ height next. cells_on bytes width height next
+height_on bytes width at = behind (side_at bytes at) λ height next. cells_on bytes width height next
 
 -- all of them: the width stands first
 unfoldable pub numbers_in : List ℕ → Begun
-numbers_in bytes = behind halted (side_at bytes 0) λ width next. height_on bytes width next
+numbers_in bytes = behind (side_at bytes 0) λ width next. height_on bytes width next
 
 -- ---- the tests behind them
 
@@ -94,17 +91,17 @@ moves_at bytes at k = take k (drop at bytes)
 -- ---- the answer and the output afterwards
 
 pub record ReadLeft : Type 0 where
-  pub answer : ReadAnswer
+  pub answer : Result Numbers ReadRefusal
   pub out : List ℕ
 
 abbrev pub refusing : ReadRefusal → List ℕ → ReadLeft
-refusing why found = record { answer = Refused why; out = found }
+refusing why found = record { answer = Err why; out = found }
 
 -- a refusal leaves all of the output; else it receives the cells and then the moves, and the rest stays
 unfoldable pub leaves_read : Numbers → List ℕ → List ℕ → List ℕ → Option ReadRefusal → ReadLeft
 leaves_read n cells moves found (some why) = refusing why found
 leaves_read n cells moves found none =
-    record { answer = FieldsRead n; out = (cells ++ moves) ++ drop (length cells + length moves) found }
+    record { answer = Ok n; out = (cells ++ moves) ++ drop (length cells + length moves) found }
 
 -- by E1's tests
 abbrev pub plan_read : Numbers → List ℕ → List ℕ → List ℕ → ReadLeft
@@ -123,37 +120,42 @@ end_read bytes found n cells at =
     (first_refusal (end_tests bytes (at + n.length) ++ under Plan (reading_tests n cells moves found)))
 
 abbrev pub begun_read : List ℕ → List ℕ → Begun → ReadLeft
-begun_read bytes found (halted why) = refusing why found
-begun_read bytes found (begun n cells at) = end_read bytes found n cells at
+begun_read bytes found (Err why) = refusing why found
+begun_read bytes found (Ok (n, cells, at)) = end_read bytes found n cells at
 
 -- the whole of a call
 unfoldable pub read_back : List ℕ → List ℕ → ReadLeft
 read_back bytes found = begun_read bytes found (numbers_in bytes)
 
 -- an answer and an output are these
-pub record ReadSettles (left : ReadLeft) (answer : ReadAnswer) (out : List ℕ) : Type 0 where
+pub record ReadSettles (left : ReadLeft) (answer : Result Numbers ReadRefusal) (out : List ℕ) : Type 0 where
   pub answers : answer ≡ left.answer
   pub leaves : out ≡ left.out
 
 -- ---- what the code's functions say of each other
 
--- the numbers were put into a buffer that they fill
-abbrev pub Filled : Several → List ℕ → Counted → Type 0
-Filled (stopped why) new r = r ≡ Faulty why
-Filled (numbers vs next) new r = (r ≡ Next next) × (new ≡ vs)
+-- several numbers as the code answers them: they fill a buffer
+abbrev pub filled : List ℕ → Result ℕ ReadRefusal → Found (List ℕ)
+filled buffer (Err why) = Err why
+filled buffer (Ok next) = found buffer next
+
+-- all numbers of a record as the code answers them: the cells stand in front of a buffer
+abbrev pub with_cells : List ℕ → Result (Numbers × ℕ) ReadRefusal → Begun
+with_cells buffer (Err why) = Err why
+with_cells buffer (Ok (n, at)) = begun n (take (n.width * n.height) buffer) at
 
 -- a cell as a byte: what no byte can hold is too large for every board, and so is 255
-unfoldable pub clamped : ℕ → ℕ
-clamped v = cond (ltb v 255) v 255
+abbrev pub clamped : ℕ → ℕ
+clamped v = min v 255
 
 -- a ceiling above 120 as one that is just above it
-unfoldable pub lowered : ℕ → ℕ
-lowered c = cond (ltb 120 c) 121 c
+abbrev pub lowered : ℕ → ℕ
+lowered c = min c 121
 
 -- the end's tests as the code answers them
-abbrev pub end_said : Option ReadRefusal → Ended
-end_said none = Whole
-end_said (some why) = EndFaulty why
+abbrev pub end_said : Option ReadRefusal → Result Unit ReadRefusal
+end_said none = Ok tt
+end_said (some why) = Err why
 
 -- what is known from the cells on, and from the moves on
 pub record CellsRead (width height : ℕ) (cells : List ℕ) : Type 0 where

@@ -1,9 +1,9 @@
 -- A reader's answer: the paper's number of each refusal, and the place that it reports (0 where none is meant). Assumes nothing.
-use Rattle.std.specs.Prelude.{ℕ}
+use Rattle.std.specs.Prelude.{ℕ, Result}
+use Rattle.board.specs.Numbered.{of_refused}
 use Rattle.records.specs.declared.ReadRefusal.{ReadRefusal}
 use Rattle.records.specs.declared.ReadRefusal.TheVariants.{CutShort, BadNumber, BadSide, LongList, BytesAfter, WrongMark, Plan}
-use Rattle.records.specs.declared.ReadAnswer.{ReadAnswer}
-use Rattle.records.specs.declared.ReadAnswer.TheVariants.{Fields, Refused}
+use Rattle.records.specs.declared.Numbers.{Numbers}
 use Rattle.records.specs.Answers.{refusal_number, refusal_place}
 
 abbrev pub unread_number : ReadRefusal → ℕ
@@ -24,10 +24,8 @@ unread_place (BytesAfter i) = i
 unread_place WrongMark = 0
 unread_place (Plan why) = refusal_place why
 
-abbrev pub reading_number : ReadAnswer → ℕ
-reading_number (Fields n) = 0
-reading_number (Refused why) = unread_number why
+abbrev pub reading_number : Result Numbers ReadRefusal → ℕ
+reading_number answer = of_refused unread_number answer
 
-abbrev pub reading_place : ReadAnswer → ℕ
-reading_place (Fields n) = 0
-reading_place (Refused why) = unread_place why
+abbrev pub reading_place : Result Numbers ReadRefusal → ℕ
+reading_place answer = of_refused unread_place answer

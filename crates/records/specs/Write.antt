@@ -1,6 +1,6 @@
 -- Writing a record: what a caller gives, the refusals in their order, the answer and the output afterwards. Tests 1 to 4 are the board's,
 -- 5 to 7 and 15 the planner's (visits tested as a budget), 13 and 14 as the player finds them. Assumes nothing.
-use Rattle.std.specs.Prelude.{ℕ, ◌≤◌, ◌≡◌, Bool, not, List, [], ◌∷◌, ◌++◌, ltb, ℤ, length, drop, get_or}
+use Rattle.std.specs.Prelude.{ℕ, ◌≤◌, ◌≡◌, Bool, not, List, [], ◌∷◌, ◌++◌, Result, Ok, Err, ltb, ℤ, length, drop, get_or}
 use Rattle.std.proofs.Math.Option.{Option, none, some}
 use Rattle.board.specs.declared.Shape.{Shape}
 use Rattle.board.specs.Shape.{GoodShape}
@@ -15,8 +15,6 @@ use Rattle.player.specs.Play.{first_bad, bad_move}
 use Rattle.planner.specs.Limits.{ceiling_of, limit_tests}
 use Rattle.records.specs.declared.PlanRefusal.{PlanRefusal}
 use Rattle.records.specs.declared.PlanRefusal.TheVariants.{Board, Beyond, TooLong, NoMove, OffGrid, NotSolved, ShortOutput}
-use Rattle.records.specs.declared.Written.{Written}
-use Rattle.records.specs.declared.Written.TheVariants.{Record, Refused}
 use Rattle.records.specs.Record.{Fields, record_of}
 
 -- what a caller gives: any numbers
@@ -80,13 +78,13 @@ write_tests g found = plan_tests g (too_short (record_of (fields_of g)) found)
 
 -- what the caller gets, and the output as it is left
 pub record Left : Type 0 where
-  pub answer : Written
+  pub answer : Result ℕ PlanRefusal
   pub out : List ℕ
 
 -- a refusal leaves the output as found; else it begins with the record, the rest stays, and the record's length is answered
 unfoldable pub leaves : List ℕ → List ℕ → Option PlanRefusal → Left
-leaves bytes found (some why) = record { answer = Refused why; out = found }
-leaves bytes found none = record { answer = Record (length bytes); out = bytes ++ drop (length bytes) found }
+leaves bytes found (some why) = record { answer = Err why; out = found }
+leaves bytes found none = record { answer = Ok (length bytes); out = bytes ++ drop (length bytes) found }
 
 -- by the first of the tests that holds
 abbrev pub left_by : List ℕ → List ℕ → List (Test PlanRefusal) → Left
@@ -104,7 +102,7 @@ abbrev pub room_written : List ℕ → List ℕ → Left
 room_written bytes found = left_by bytes found (test (too_short bytes found) ShortOutput ∷ [])
 
 -- an answer and an output are these
-pub record Settles (left : Left) (answer : Written) (out : List ℕ) : Type 0 where
+pub record Settles (left : Left) (answer : Result ℕ PlanRefusal) (out : List ℕ) : Type 0 where
   pub answers : answer ≡ left.answer
   pub leaves : out ≡ left.out
 

@@ -1,49 +1,35 @@
 // Numbers as groups of seven bits: how many bytes they take, and how they are put into a lent buffer from a place on.
-ghost use Rattle.std.specs.Prelude.{◌≡◌, ◌+◌, ◌≤◌, length};
+ghost use Rattle.std.specs.Prelude.{◌≡◌, ◌+◌, ◌^◌, ◌<◌, ◌≤◌, length, sum_by};
 ghost use Rattle.records.specs.Groups.{groups, spelled};
-ghost use Rattle.records.specs.Put.{Put, Counted};
+ghost use Rattle.records.specs.Put.{Put};
 
 // How many groups a number has.
 pub fn group_count(n: u32) -> usize
     ensures { result ≡ length (groups n) }
 {
-    let mut higher = n / 128;
-    let mut count: usize = 1;
-    while 0 < higher {
-        higher = higher / 128;
-        count += 1;
-    }
-    count
+    n.checked_ilog(128).unwrap_or(0) as usize + 1
 }
 
 // How many groups numbers have together.
 pub fn groups_count(numbers: &[u32]) -> usize
-    requires { length numbers.now ≤ 16 }
-    ensures { Counted numbers.now result }
+    requires { sum_by (λ n. length (groups n)) numbers.now < 2 ^ 64 }
+    ensures { result ≡ sum_by (λ n. length (groups n)) numbers.now }
 {
-    let mut count: usize = 0;
-    let mut i = 0;
-    while i < numbers.len() {
-        count += group_count(numbers[i]);
-        i += 1;
-    }
-    count
+    numbers.iter().map(|&n| group_count(n)).sum()
 }
 
 // Puts a number, from its last group but one to the first and then the last, and answers the place behind it. So do the functions below
-// with what they put.
+// with what they put. A place and not the rest of the buffer: a rest that is lent on needs a starred clause in each on how it comes back.
 pub fn put_number(n: u32, out: &mut [u8], at: usize) -> usize
     requires { at + length (groups n) ≤ length out.old }
     ensures { Put (groups n) out.old at out.new result }
 {
     let end = at + group_count(n);
     let last = end - 1;
-    let mut place = last;
     let mut rest = n / 128;
-    while 0 < rest {
-        place -= 1;
+    for place in (at..last).rev() {
         out[place] = (128 + rest % 128) as u8;
-        rest = rest / 128;
+        rest /= 128;
     }
     out[last] = (n % 128) as u8;
     end
@@ -55,10 +41,8 @@ pub fn put_numbers(numbers: &[u32], out: &mut [u8], at: usize) -> usize
     ensures { Put (spelled numbers.now) out.old at out.new result }
 {
     let mut next = at;
-    let mut i = 0;
-    while i < numbers.len() {
-        next = put_number(numbers[i], out, next);
-        i += 1;
+    for &n in numbers {
+        next = put_number(n, out, next);
     }
     next
 }

@@ -1,9 +1,9 @@
 // Plan records: a plan with its board, as bytes that a controller stores and sends to the next cabinet.
 //
 // specs/Record.antt has the bytes of a record, specs/Write.antt the whole answer of a call; proofs/Promises.antt collects what is promised.
-// `write` is the call; `put` puts a record's bytes, `groups` its numbers, `mark` its mark; `answers` reads an answer.
+// `write` is the call; `put` puts a record's bytes, `groups` its numbers, `mark` its mark; `answers` has a refusal's number and place.
 // Back: specs/Scan.antt has the numbers as they stand in bytes, specs/Read.antt the whole answer. `read` is the call; `scan` finds the
-// numbers, `ends` looks at what stands behind them; `readings` reads an answer.
+// numbers, `ends` looks at what stands behind them; `readings` has a refusal's number and place.
 
 #![tactic(auto)]
 
@@ -13,15 +13,21 @@ mod groups;
 mod mark;
 mod put;
 pub mod read;
-pub mod readings;
+mod readings;
 mod scan;
 pub mod write;
 
+ghost use Rattle.std.specs.Prelude.{◌≡◌};
+ghost use Rattle.records.specs.declared.PlanRefusal.TheVariants.{Board, Beyond};
+ghost use Rattle.records.specs.declared.ReadRefusal.TheVariants.{Plan};
+ghost use Rattle.records.specs.Write.{unplayed};
+
 use board::Fault;
 use planner::Limit;
+use player::PlayRefusal;
 
 // Why a plan is not written: the paper's numbers, in the order of the tests.
-#[derive(Clone, Copy)]
+#[derive(Clone, Copy, Debug, PartialEq, Eq)]
 pub enum PlanRefusal {
     // 1 to 4: a fault of the width, the height or the board
     Board(Fault),
@@ -39,17 +45,38 @@ pub enum PlanRefusal {
     ShortOutput,
 }
 
-// What writing a plan comes to.
-#[derive(Clone, Copy)]
-pub enum Written {
-    // The record's length; the output begins with it.
-    Record(usize),
-    // The output is as it was found.
-    Refused(PlanRefusal),
+impl From<Fault> for PlanRefusal {
+    ghost from_gives = { λ fault r. r ≡ Board fault };
+
+    fn from(fault: Fault) -> PlanRefusal {
+        PlanRefusal::Board(fault)
+    }
+}
+
+impl From<Limit> for PlanRefusal {
+    ghost from_gives = { λ limit r. r ≡ Beyond limit };
+
+    fn from(limit: Limit) -> PlanRefusal {
+        PlanRefusal::Beyond(limit)
+    }
+}
+
+// The player's refusal of a list, with the same number and place.
+impl From<PlayRefusal> for PlanRefusal {
+    ghost from_gives = { λ why r. r ≡ unplayed why };
+
+    fn from(why: PlayRefusal) -> PlanRefusal {
+        match why {
+            PlayRefusal::Board(fault) => PlanRefusal::Board(fault),
+            PlayRefusal::ShortOutput => PlanRefusal::ShortOutput,
+            PlayRefusal::NoMove(i) => PlanRefusal::NoMove(i),
+            PlayRefusal::OffGrid(i) => PlanRefusal::OffGrid(i),
+        }
+    }
 }
 
 // The numbers of a record but its cells.
-#[derive(Clone, Copy)]
+#[derive(Clone, Copy, Debug, PartialEq, Eq)]
 pub struct Numbers {
     pub width: u32,
     pub height: u32,
@@ -62,7 +89,7 @@ pub struct Numbers {
 }
 
 // Why bytes are not read: the paper's numbers, in the order met.
-#[derive(Clone, Copy)]
+#[derive(Clone, Copy, Debug, PartialEq, Eq)]
 pub enum ReadRefusal {
     // 17: the record is cut short; its length
     CutShort(usize),
@@ -80,11 +107,10 @@ pub enum ReadRefusal {
     Plan(PlanRefusal),
 }
 
-// What reading a record comes to.
-#[derive(Clone, Copy)]
-pub enum ReadAnswer {
-    // Its numbers; the output begins with its cells and then its moves.
-    Fields(Numbers),
-    // The output is as it was found.
-    Refused(ReadRefusal),
+impl From<PlanRefusal> for ReadRefusal {
+    ghost from_gives = { λ why r. r ≡ Plan why };
+
+    fn from(why: PlanRefusal) -> ReadRefusal {
+        ReadRefusal::Plan(why)
+    }
 }

@@ -1,48 +1,28 @@
 // The mark of a record: 32-bit FNV-1a, with the program's own wrapping multiply.
-ghost use Rattle.std.specs.Prelude.{◌≡◌, ◌+◌, ◌≤◌, length, take};
-ghost use Rattle.records.specs.Mark.{times, mark_step, mark, mark_bytes};
-ghost use Rattle.records.specs.Put.{Put};
+ghost use Rattle.std.specs.Prelude.{◌≡◌};
+ghost use Rattle.records.specs.Mark.{times, mark_step, mark};
 
 const START: u32 = 2166136261;
 
 const FACTOR: u32 = 16777619;
 
-// A product kept to 32 bits.
+// A product kept to 32 bits. The paper asks for the program's own multiply, so it is not the library's `wrapping_mul`.
 fn times(x: u32, y: u32) -> u32
     ensures { result ≡ times x y }
 {
-    (x as u64 * y as u64 % 4294967296) as u32
+    (u64::from(x) * u64::from(y) % 4294967296) as u32
 }
 
 // The mark with one byte more.
 fn mark_step(m: u32, b: u8) -> u32
     ensures { result ≡ mark_step m b }
 {
-    times(m ^ b as u32, FACTOR)
+    times(m ^ u32::from(b), FACTOR)
 }
 
-// The mark of the bytes before a place.
-pub fn mark_before(bytes: &[u8], end: usize) -> u32
-    requires { end ≤ length bytes.now }
-    ensures { result ≡ mark (take end bytes.now) }
+// The mark of bytes.
+pub fn mark(bytes: &[u8]) -> u32
+    ensures { result ≡ mark bytes.now }
 {
-    let mut m = START;
-    let mut i = 0;
-    while i < end {
-        m = mark_step(m, bytes[i]);
-        i += 1;
-    }
-    m
-}
-
-// Puts a mark's four bytes, the high one first, and answers the place behind them.
-pub fn put_mark(m: u32, out: &mut [u8], at: usize) -> usize
-    requires { at + 4 ≤ length out.old }
-    ensures { Put (mark_bytes m) out.old at out.new result }
-{
-    out[at] = (m / 16777216 % 256) as u8;
-    out[at + 1] = (m / 65536 % 256) as u8;
-    out[at + 2] = (m / 256 % 256) as u8;
-    out[at + 3] = (m % 256) as u8;
-    at + 4
+    bytes.iter().fold(START, |m, &b| mark_step(m, b))
 }

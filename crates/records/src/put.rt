@@ -1,64 +1,57 @@
 // A record's bytes put at the start of a lent buffer, piece behind piece, and how many they are.
 ghost use Rattle.std.specs.Prelude.{◌≡◌, ◌+◌, ◌≤◌, length};
-ghost use Rattle.records.specs.Record.{piece, pieces, sealed};
+ghost use Rattle.records.specs.Record.{pieces, sealed};
 ghost use Rattle.records.specs.Put.{Put};
 
 use crate::groups::{groups_count, put_numbers};
-use crate::mark::{mark_before, put_mark};
+use crate::mark::mark;
 
-// Puts bytes as they are, and answers the place behind them.
+// Puts bytes as they are, and answers the place behind them. No `copy_from_slice`: it moves by memmove, and of the C library the archive
+// wants memcpy and memset alone (docs/C-INTERFACE.md).
 pub fn put_bytes(bytes: &[u8], out: &mut [u8], at: usize) -> usize
     requires { at + length bytes.now ≤ length out.old }
     ensures { Put bytes.now out.old at out.new result }
 {
-    let mut i = 0;
-    while i < bytes.len() {
-        out[at + i] = bytes[i];
-        i += 1;
+    for (i, byte) in bytes.iter().enumerate() {
+        out[at + i] = *byte;
     }
-    at + i
+    at + bytes.len()
 }
 
-// Puts numbers and then bytes.
-fn put_piece(numbers: &[u32], bytes: &[u8], out: &mut [u8], at: usize) -> usize
-    requires { at + length (piece numbers.now bytes.now) ≤ length out.old }
-    ensures { Put (piece numbers.now bytes.now) out.old at out.new result }
-{
-    let next = put_numbers(numbers, out, at);
-    put_bytes(bytes, out, next)
+// What a record holds, in the pieces in which it is put: numbers and then bytes, twice.
+#[derive(Clone, Copy)]
+pub struct Parts<'a> {
+    pub shape: [u32; 2],
+    pub board: &'a [u8],
+    pub plan: [u32; 5],
+    pub moves: &'a [u8],
+    ghost short: { length (pieces shape board.now plan moves.now) ≤ 145 },
 }
 
-// Puts all before the mark.
-fn put_body(shape: &[u32; 2], board: &[u8], plan: &[u32; 5], moves: &[u8], out: &mut [u8]) -> usize
-    requires { length (pieces shape.now board.now plan.now moves.now) ≤ length out.old }
-    ensures { Put (pieces shape.now board.now plan.now moves.now)
-        out.old 0 out.new result }
-{
-    let next = put_piece(shape, board, out, 0);
-    put_piece(plan, moves, out, next)
-}
+impl Parts<'_> {
+    ghost use Rattle.records.specs.Parts.{body_of};
 
-// Puts a whole record, and answers its length.
-pub fn put_record(
-    shape: &[u32; 2],
-    board: &[u8],
-    plan: &[u32; 5],
-    moves: &[u8],
-    out: &mut [u8],
-) -> usize
-    requires { length (sealed (pieces shape.now board.now plan.now moves.now)) ≤ length out.old }
-    ensures { Put (sealed (pieces shape.now board.now plan.now moves.now))
-        out.old 0 out.new result }
-{
-    let end = put_body(shape, board, plan, moves, out);
-    let mark = mark_before(out, end);
-    put_mark(mark, out, end)
-}
+    // The length of the whole record.
+    pub fn len(&self) -> usize
+        ensures { result ≡ length (sealed (body_of self.now)) }
+    {
+        groups_count(&self.shape)
+            + self.board.len()
+            + groups_count(&self.plan)
+            + self.moves.len()
+            + 4
+    }
 
-// The length of a whole record.
-pub fn record_length(shape: &[u32; 2], board: &[u8], plan: &[u32; 5], moves: &[u8]) -> usize
-    requires { (length board.now ≤ 16) × (length moves.now ≤ 120) }
-    ensures { result ≡ length (sealed (pieces shape.now board.now plan.now moves.now)) }
-{
-    groups_count(shape) + board.len() + groups_count(plan) + moves.len() + 4
+    // Puts the whole record, and answers its length.
+    pub fn put(&self, out: &mut [u8]) -> usize
+        requires { length (sealed (body_of self.now)) ≤ length out.old }
+        ensures { Put (sealed (body_of self.now)) out.old 0 out.new result }
+    {
+        let next = put_numbers(&self.shape, out, 0);
+        let next = put_bytes(self.board, out, next);
+        let next = put_numbers(&self.plan, out, next);
+        let end = put_bytes(self.moves, out, next);
+        let mark = mark(&out[..end]);
+        put_bytes(&mark.to_be_bytes(), out, end)
+    }
 }

@@ -1,136 +1,91 @@
 // Numbers as they stand in a record: what is found at a place, the value with the place behind it or the fault with its place.
+// The place is handed on by value: with a reader that is moved along, each clause would also have to say that its bytes stay.
 ghost use Rattle.std.specs.Prelude.{◌≡◌, length};
-ghost use Rattle.board.specs.Shape.{bad_side};
-ghost use Rattle.records.specs.Scan.{ended, groups_at, number_at, as_side, side_at, as_length, length_at, numbers_at};
-ghost use Rattle.records.specs.Read.{Filled};
+ghost use Rattle.records.specs.Scan.{ended, groups_at, number_at, side_at, length_at, numbers_at, TestedBy};
+ghost use Rattle.records.specs.Read.{filled};
 
 use crate::ReadRefusal;
-
-// What is found where a number is wanted.
-#[derive(Clone, Copy)]
-pub enum Scanned {
-    // its value, and the place behind it
-    Number(u32, usize),
-    Faulty(ReadRefusal),
-}
-
-// What is found where several numbers are wanted.
-#[derive(Clone, Copy)]
-pub enum Counted {
-    // the place behind them
-    Next(usize),
-    Faulty(ReadRefusal),
-}
-
-// A number that began at `first` and has ended before `next`.
-fn ended(first: usize, value: u64, next: usize) -> Scanned
-    ensures { result ≡ ended first value next }
-{
-    if value < 4294967296 {
-        return Scanned::Number(value as u32, next);
-    }
-    Scanned::Faulty(ReadRefusal::BadNumber(first))
-}
+use board::faults::bad_side;
 
 // The groups of a number, of which five are looked at.
-fn groups_at(bytes: &[u8], first: usize) -> Scanned
+fn groups_at(bytes: &[u8], first: usize) -> Result<(u32, usize), ReadRefusal>
     ensures { result ≡ groups_at 5 bytes.now first 0 first }
 {
     let mut value: u64 = 0;
     let mut at = first;
-    let mut count: usize = 0;
-    while count < 5 {
-        if bytes.len() <= at {
-            return Scanned::Faulty(ReadRefusal::CutShort(bytes.len()));
-        }
-        let b = bytes[at];
-        value = value * 128 + (b % 128) as u64;
+    for _count in 0..5u32 {
+        let Some(&b) = bytes.get(at) else {
+            return Err(ReadRefusal::CutShort(bytes.len()));
+        };
+        value = value * 128 + u64::from(b % 128);
         at += 1;
         if b < 128 {
             return ended(first, value, at);
         }
-        count += 1;
     }
-    Scanned::Faulty(ReadRefusal::BadNumber(first))
+    Err(ReadRefusal::BadNumber(first))
+}
+
+// A number that began at `first` and has ended before `next`.
+fn ended(first: usize, value: u64, next: usize) -> Result<(u32, usize), ReadRefusal>
+    ensures { result ≡ ended first value next }
+{
+    match u32::try_from(value) {
+        Ok(value) => Ok((value, next)),
+        Err(_) => Err(ReadRefusal::BadNumber(first)),
+    }
 }
 
 // The number at a place.
-pub fn number_at(bytes: &[u8], at: usize) -> Scanned
+pub fn number_at(bytes: &[u8], at: usize) -> Result<(u32, usize), ReadRefusal>
     ensures { result ≡ number_at bytes.now at }
 {
-    if at < bytes.len() {
-        if bytes[at] == 128 {
-            return Scanned::Faulty(ReadRefusal::BadNumber(at));
-        }
-        return groups_at(bytes, at);
+    if bytes.get(at) == Some(&128) {
+        return Err(ReadRefusal::BadNumber(at));
     }
-    Scanned::Faulty(ReadRefusal::CutShort(bytes.len()))
+    groups_at(bytes, at)
 }
 
-// Test 1 of one side.
-fn bad_side(k: u32) -> bool
-    ensures { result ≡ bad_side k }
+// The number at a place, or this refusal where a test holds of it.
+fn number_but<F: Fn(u32) -> bool>(
+    bytes: &[u8],
+    at: usize,
+    bad: F,
+    why: ReadRefusal,
+) -> Result<(u32, usize), ReadRefusal>
+    requires { F.IsAlwaysCallable bad }
+    ensures { TestedBy (F.post bad) why (number_at bytes.now at) result }
 {
-    k < 2 || 4 < k
-}
-
-fn as_side(at: usize, found: Scanned) -> Scanned
-    ensures { result ≡ as_side at found }
-{
-    match found {
-        Scanned::Faulty(why) => Scanned::Faulty(why),
-        Scanned::Number(value, next) => {
-            if bad_side(value) {
-                return Scanned::Faulty(ReadRefusal::BadSide(at));
-            }
-            Scanned::Number(value, next)
-        }
+    let (value, next) = number_at(bytes, at)?;
+    if bad(value) {
+        return Err(why);
     }
+    Ok((value, next))
 }
 
 // The width or height at a place.
-pub fn side_at(bytes: &[u8], at: usize) -> Scanned
+pub fn side_at(bytes: &[u8], at: usize) -> Result<(u32, usize), ReadRefusal>
     ensures { result ≡ side_at bytes.now at }
 {
-    as_side(at, number_at(bytes, at))
-}
-
-fn as_length(at: usize, found: Scanned) -> Scanned
-    ensures { result ≡ as_length at found }
-{
-    match found {
-        Scanned::Faulty(why) => Scanned::Faulty(why),
-        Scanned::Number(value, next) => {
-            if 120 < value {
-                return Scanned::Faulty(ReadRefusal::LongList(at));
-            }
-            Scanned::Number(value, next)
-        }
-    }
+    number_but(bytes, at, bad_side, ReadRefusal::BadSide(at))
 }
 
 // The length at a place.
-pub fn length_at(bytes: &[u8], at: usize) -> Scanned
+pub fn length_at(bytes: &[u8], at: usize) -> Result<(u32, usize), ReadRefusal>
     ensures { result ≡ length_at bytes.now at }
 {
-    as_length(at, number_at(bytes, at))
+    number_but(bytes, at, |length| 120 < length, ReadRefusal::LongList(at))
 }
 
-// Fills `numbers` with those from a place on.
-pub fn numbers_at(bytes: &[u8], from: usize, numbers: &mut [u32]) -> Counted
-    ensures { Filled (numbers_at (length numbers.old) bytes.now from) numbers.new result }
+// Fills `numbers` with those from a place on, and answers the place behind them.
+pub fn numbers_at(bytes: &[u8], from: usize, numbers: &mut [u32]) -> Result<usize, ReadRefusal>
+    ensures { numbers_at (length numbers.old) bytes.now from ≡ filled numbers.new result }
 {
     let mut at = from;
-    let mut i = 0;
-    while i < numbers.len() {
-        match number_at(bytes, at) {
-            Scanned::Faulty(why) => return Counted::Faulty(why),
-            Scanned::Number(value, next) => {
-                numbers[i] = value;
-                at = next;
-            }
-        }
-        i += 1;
+    for number in numbers.iter_mut() {
+        let (value, next) = number_at(bytes, at)?;
+        *number = value;
+        at = next;
     }
-    Counted::Next(at)
+    Ok(at)
 }

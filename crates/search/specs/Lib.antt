@@ -4,3 +4,4 @@ pub mod Space
 pub mod Row
 pub mod Search
 pub mod Run
+pub mod Ground

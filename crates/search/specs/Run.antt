@@ -7,6 +7,8 @@ use Rattle.search.specs.declared.Job.{Job}
 use Rattle.search.specs.declared.Pick.{Pick}
 use Rattle.search.specs.declared.Out.{Out}
 use Rattle.search.specs.declared.Out.TheVariants.{Found, Value, Spent}
+use Rattle.search.specs.declared.visits.End.{End}
+use Rattle.search.specs.declared.visits.End.TheVariants.{Found as FoundAt, Value as Returned, Spent as OutOfVisits}
 use Rattle.search.specs.Row.{infinity, entry, best, second, first_stored, above_ceiling}
 use Rattle.search.specs.Space.{boards}
 use Rattle.search.specs.Search.{Outcome, found, value, spent, static, visit, work, search}
@@ -72,7 +74,14 @@ told g (found ms left) = Found (g + length ms) left
 told g (value v left) = Value v left
 told g spent = Spent
 
--- an answer in one number, as visits hand it up: what is left in the lowest 32 bits, a value or a length in the 16 above, then the kind
+-- a visit's end with the visits that are left, as a search answers it
+abbrev pub ended : End → ℕ → Out
+ended (FoundAt n) left = Found n left
+ended (Returned v) left = Value v left
+ended OutOfVisits left = Spent
+
+-- an answer in one number, as visits once handed it up: what is left in the lowest 32 bits, a value or a length in the 16 above, then the
+-- kind. No function does so now; docs/landings/speed.md names the theorems
 unfoldable pub answer_of : ℕ → Out
 answer_of x =
     let left = x % 4294967296 in
@@ -95,12 +104,6 @@ pub record Ran (g : ℕ) (o : Outcome) (table moves : List ℕ) (r : Out) (table
 -- the whole search of a job from a board
 abbrev pub of_job : Job → List ℕ → ℕ → Outcome
 of_job job b budget = search (boards job.shape) (static (boards job.shape) job.weight) job.ceiling b budget
-
--- the length of the path that was found; 0 where none was
-abbrev pub found_length : Out → ℕ
-found_length (Found n left) = n
-found_length (Value v left) = 0
-found_length Spent = 0
 
 -- the visit to the start: how it ended, and the move buffer as it was left
 pub record Ended (o : Outcome) (moves : List ℕ) (r : Out) (moves' : List ℕ) : Type 0 where

@@ -1,23 +1,35 @@
 // The decisions over a row of four stored values, each as its definition in specs/Row.antt says.
-ghost use Rattle.std.specs.Prelude.{◌≡◌, not, [], ◌∷◌, ◌≤◌, ◌+◌, min};
-ghost use Rattle.search.specs.Row.{best_of, may_go_on, first_stored, above_ceiling, better};
+ghost use Rattle.std.specs.Prelude.{◌≡◌, not, ◌≤◌, ◌<◌, length, slice_index};
+ghost use Rattle.search.specs.Row.{best, may_go_on, first_stored, above_ceiling, better};
 ghost use Rattle.search.specs.Run.{Picks};
 
 use crate::{Choice, Pick};
 
-// 65,535 stands for infinity.
+// 65,535 stands for infinity, and no Option: the lent table holds numbers, and specs/Row.antt has `infinity` as one of them.
 pub const INFINITY: u16 = 65535;
 
-// The move to visit: the least value, and the lower move number at equal values.
-pub fn best_of(a: u16, b: u16, c: u16, d: u16) -> Choice
-    ensures { result ≡ best_of a b c d }
+// The move to visit: the least value, and the lower move number at equal values. The row is lent: an array by value costs the search a
+// fifth (28.6 million visits a second against 36.2).
+pub fn best_of(row: &[u16]) -> Choice
+    requires { length row.now ≡ 4 }
+    ensures { result ≡ best row.now }
 {
-    let ab = better(Choice { step: 0, value: a }, Choice { step: 1, value: b });
-    let abc = better(ab, Choice { step: 2, value: c });
-    better(abc, Choice { step: 3, value: d })
+    let ab = better(choice(row, 0), choice(row, 1));
+    let abc = better(ab, choice(row, 2));
+    better(abc, choice(row, 3))
 }
 
-// The later choice only where its value is less.
+// A move with its stored value.
+fn choice(row: &[u16], step: usize) -> Choice
+    requires { step < length row.now }
+    ensures { result ≡ record { step = step; value = slice_index row.now step } }
+{
+    let value = row[step];
+    Choice { step, value }
+}
+
+// The later choice only where its value is less. A derived order, with `min`, would compare the moves too, which are in order here, and
+// leave no test for the edit ties_by_latest to turn round.
 fn better(x: Choice, y: Choice) -> Choice
     ensures { result ≡ better x y }
 {
@@ -25,24 +37,25 @@ fn better(x: Choice, y: Choice) -> Choice
 }
 
 // The first move whose value is the least, and the least of the other three.
-pub fn picked(a: u16, b: u16, c: u16, d: u16, least: u16) -> Pick
-    requires { least ≡ (best_of a b c d).value }
-    ensures { Picks (a ∷ b ∷ c ∷ d ∷ []) result }
+pub fn picked(row: &[u16], least: u16) -> Pick
+    requires row_length { length row.now ≡ 4 }
+    requires least_value { least ≡ (best row.now).value }
+    ensures { Picks row.now result }
 {
-    if a == least {
-        let second = lesser(b, lesser(c, d));
+    if row[0] == least {
+        let second = row[1].min(row[2].min(row[3]));
         return Pick { step: 0, second };
     }
-    if b == least {
-        let second = lesser(a, lesser(c, d));
+    if row[1] == least {
+        let second = row[0].min(row[2].min(row[3]));
         return Pick { step: 1, second };
     }
-    let ab = lesser(a, b);
-    if c == least {
-        let second = lesser(ab, d);
+    let ab = row[0].min(row[1]);
+    if row[2] == least {
+        let second = ab.min(row[3]);
         return Pick { step: 2, second };
     }
-    let second = lesser(ab, c);
+    let second = ab.min(row[2]);
     Pick { step: 3, second }
 }
 
@@ -53,23 +66,11 @@ pub fn stops_at(bound: u16, least: u16) -> bool
     bound < least || least == INFINITY
 }
 
-pub fn lesser(a: u16, b: u16) -> u16
-    ensures { result ≡ min a b }
-{
-    if a < b { a } else { b }
-}
-
 // A successor's first stored value.
 pub fn first_stored(f: u16, stored: u16, own: u16) -> u16
     ensures { result ≡ first_stored f stored own }
 {
-    if f < stored {
-        if stored < own {
-            return own;
-        }
-        return stored;
-    }
-    own
+    if f < stored { stored.max(own) } else { own }
 }
 
 // The g moves made and the distance h are together above the ceiling: h is more than is left of it.

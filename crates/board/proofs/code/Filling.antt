@@ -48,9 +48,6 @@ no_cell s k past = simp (le-ltb (k / 64) (cells s) past)
 -- ---- a run of entries, as far as it is put
 
 module _ (f : ℕ → ℕ) (place : ℕ) (before : List ℕ) where
-  pub none-put : RunPut f place 0 before before
-  none-put = record { long = refl; put = λ i l. absurd (omega arith); earlier = λ k l. refl; later = λ k l. refl }
-
   pub one-put : (near : List ℕ) (j x : ℕ) → RunPut f place j before near → place + j < length near → x ≡ f j
       → RunPut f place (j + 1) before (set near (place + j) x)
   one-put near j x p inside is =
@@ -62,15 +59,6 @@ module _ (f : ℕ → ℕ) (place : ℕ) (before : List ℕ) where
             (get_or-set_same near (place + j) x 0 inside ∙ is);
         earlier = λ k l. get_or-set_other near (place + j) k x 0 (λ q. omega arith) ∙ p.earlier k l;
         later = λ k l. get_or-set_other near (place + j) k x 0 (λ q. omega arith) ∙ p.later k (omega arith);
-      }
-
-  pub all-put : (near : List ℕ) (j n : ℕ) → RunPut f place j before near → j ≡ n → RunPut f place n before near
-  all-put near j n p e =
-      record {
-        long = p.long;
-        put = λ i l. p.put i (omega arith);
-        earlier = p.earlier;
-        later = λ k l. p.later k (omega arith);
       }
 
 -- ---- the whole table: the cells below e are put, and behind them all is 0

@@ -21,11 +21,12 @@ use Rattle.board.specs.Digits.{digits, digit}
 use Rattle.board.specs.Held.{held, Holds, Taken, Slides, Slid}
 use Rattle.board.specs.Change.{OneStep, change_of, change, change_to, MovedBy}
 use Rattle.board.proofs.theory.Sides.{cells-within}
-use Rattle.board.proofs.theory.Boards.{empty-inside, empty-holds_0}
+use Rattle.board.proofs.theory.Boards.{empty-holds_0}
 use Rattle.board.proofs.theory.Moving.{target, target-inside, target-elsewhere, after-board, after-empty}
 use Rattle.board.proofs.theory.Digits.{word, packed, Small, packed-below, packed-word, packed-set, length_digits, at-digits}
 use Rattle.board.proofs.theory.Digits.{digits-packed, packed-digits}
 use Rattle.board.proofs.theory.Changes.{looked_up, change_by_cell, move-change, move-one_step}
+use Rattle.board.proofs.code.Holding.{empty-below}
 
 pub passes : {t : Bool} → t ≡ true → T t
 passes e = subst T (sym e) tt
@@ -55,8 +56,8 @@ set-small l i v small below inside j h =
     ]
 
 module _ (s : Shape) (p : Position) (holds : Holds s p) where
-  pub empty-below : p.empty < cells s
-  empty-below = subst (λ (e : ℕ). e < cells s) (sym holds.empty) (empty-inside s (held s p) holds.shape holds.board)
+  hole-below : p.empty < cells s
+  hole-below = empty-below s p holds
 
   pub stays : (m : ℕ) → legal s (held s p) m ≡ true → stays_on s p.empty m ≡ true
   unfolding legal
@@ -74,7 +75,7 @@ module _ (s : Shape) (p : Position) (holds : Holds s p) where
     pub entries_tell : (near : List ℕ) → NearTable s near
         → change_of (get_or near (64 * p.empty + x) 0) (get_or near (64 * t + x) 0) ≡ change_to s (held s p) t
     entries_tell near table =
-        ap₂ change_of (looked_up s near p.empty x holds.shape table empty-below tray-below)
+        ap₂ change_of (looked_up s near p.empty x holds.shape table hole-below tray-below)
         (looked_up s near t x holds.shape table below tray-below)
         ∙ ap (λ (v : ℕ). change_of (tray_distance s p.empty v) (tray_distance s t v)) in_board
         ∙ ap (λ (e : ℕ). change_of (tray_distance s e (at (held s p) t)) (tray_distance s t (at (held s p) t))) holds.empty
@@ -120,7 +121,7 @@ module _ (s : Shape) (p : Position) (holds : Holds s p) where
     pub may-slide : Slides p t
     may-slide =
         let few = cells-within holds.shape in
-        let inside = empty-below in
+        let inside = hole-below in
         record {
           target = omega (arith, target_below);
           empty = omega arith;
@@ -131,12 +132,12 @@ module _ (s : Shape) (p : Position) (holds : Holds s p) where
       where
         stored : Small (set board p.empty (at board t))
         stored =
-            set-small board p.empty (at board t) small (small t (omega (arith, target_below, long))) (omega (arith, empty-below, long))
+            set-small board p.empty (at board t) small (small t (omega (arith, target_below, long))) (omega (arith, hole-below, long))
 
         both : packed (set board p.empty (at board t)) ≡ p.cells + digit p.cells t * 16 ^ p.empty
         both =
             let none = ap (λ (v : ℕ). v * 16 ^ p.empty) hole in
-            omega (arith, packed-set board p.empty (at board t) (omega (arith, empty-below, long)), whole, placed p.empty)
+            omega (arith, packed-set board p.empty (at board t) (omega (arith, hole-below, long)), whole, placed p.empty)
 
     -- ---- the slide holds the board after the move
 
@@ -150,7 +151,7 @@ module _ (s : Shape) (p : Position) (holds : Holds s p) where
 
       packs : packed (after s board m) ≡ q.cells
       packs =
-          let inside = empty-below in
+          let inside = hole-below in
           omega (
             arith,
             ap packed after_is,

@@ -239,3 +239,6 @@ module _ (s : Shape) (b : List ℕ) (shape : GoodShape s) (board : IsBoard s b) 
 
       tray : x ≢ 0
       tray = target-holds-tray s b m shape board allowed
+
+-- what bounds a place in the table of distances
+pub ruleset places = (four-wide-inside)

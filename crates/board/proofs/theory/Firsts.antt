@@ -1,14 +1,21 @@
 -- What `first_of f i k` is: the only number that `IsFirst` fits. First its two turns, then that characterisation and that it
 -- decides the number; and what follows from it: the laws one by one, the converse, the turns of a loop that has passed the
--- numbers below j, and equal tests. Rests on the definition of `first_of` alone. Assumes nothing.
+-- numbers below j, equal tests, and what `position` finds in a list. Rests on the definition of `first_of` alone. Assumes nothing.
 use Prim.Native.Nat.{ℕ, zero, suc, ◌+◌, ◌-◌, ◌≤◌, ◌<◌}
-use mathlib.Core.Path.{◌≡◌, refl, sym, ◌∙◌}
-use mathlib.Core.Bool.{Bool, true, false, true≢false}
+use mathlib.Core.Path.{◌≡◌, refl, sym, ap, ◌∙◌}
+use mathlib.Core.Bool.{Bool, true, false, true≢false, cond, not}
+use mathlib.Core.List.{List, [], ◌∷◌}
 use mathlib.Core.Logic.{◌⊎◌, inl, inr}
 use native.Mathlib.Nat.{eq-or-lt_of_le}
 use native.Mathlib.Decide.{dec_lt}
 use native.Mathlib.Omega.{arith}
-use Rattle.board.specs.First.{first_of}
+use lib.ListN.{length}
+use lib.Dec.{ltb}
+use borrow.Author.Tests.{lt-ltb, le-ltb}
+use Rattle.std.specs.Prelude.{Some, None, is_some}
+use Rattle.std.specs.List.{position, position_or_len}
+use Rattle.board.specs.First.{first_of, found}
+use Rattle.board.specs.Board.{at}
 
 -- r is the first of i, i + 1, .. (k numbers in all) at which f holds, or i + k where it holds at none
 pub record IsFirst (f : ℕ → Bool) (i k r : ℕ) : Type 0 where
@@ -132,3 +139,57 @@ first_of_cong f g i k same = first_of_is f i k (first_of g i k) (go (first_of g 
           holds = λ h. same r c.low h ∙ c.holds h;
           fails = λ j l h. same j l (omega arith) ∙ c.fails j l h;
         }
+
+-- ---- a place is found exactly below the bound
+
+pub found_below : (n i : ℕ) → i < n → Some i ≡ found n i
+found_below n i h = simp (lt-ltb i n h)
+
+pub found_past : (n i : ℕ) → n ≤ i → None ≡ found n i
+found_past n i h = simp (le-ltb i n h)
+
+pub found_tells : (n i : ℕ) → is_some (found n i) ≡ ltb i n
+found_tells n i = go (ltb i n)
+  where
+    go : (t : Bool) → is_some (cond t (Some i) None) ≡ t
+    go true = refl
+    go false = refl
+
+pub found_is : (n i j : ℕ) → found n i ≡ Some j → (i ≡ j) × (ltb j n ≡ true)
+found_is n i j e = go (ltb i n) refl e
+  where
+    go : (t : Bool) → ltb i n ≡ t → cond t (Some i) None ≡ Some j → (i ≡ j) × (ltb j n ≡ true)
+    go true q e = let same : i ≡ j = cc in (same, rw (← same) q)
+    go false q e = cc
+
+pub none-found : (n i : ℕ) → found n i ≡ None → ltb i n ≡ false
+none-found n i e = go (ltb i n) refl e
+  where
+    go : (t : Bool) → ltb i n ≡ t → cond t (Some i) None ≡ None → ltb i n ≡ false
+    go true q e = cc
+    go false q e = q
+
+-- ---- the first element of a list that passes a test
+
+-- one number more at each place
+first_of_later : (f : ℕ → Bool) (i k : ℕ) → first_of f (suc i) k ≡ suc (first_of (λ j. f (suc j)) i k)
+unfolding first_of
+first_of_later f i zero = refl
+first_of_later f i (suc k) = go (f (suc i)) (first_of_later f (suc i) k)
+  where
+    go : (t : Bool) {r q : ℕ} → r ≡ suc q → cond t (suc i) r ≡ suc (cond t i q)
+    go true e = refl
+    go false e = e
+
+pub first_position : (p : ℕ → Bool) (xs : List ℕ) → position_or_len p xs ≡ first_of (λ i. p (at xs i)) 0 (length xs)
+unfolding first_of
+first_position p [] = refl
+first_position p (x ∷ xs) = go (p x) (ap suc (first_position p xs) ∙ sym (first_of_later (λ i. p (at (x ∷ xs) i)) 0 (length xs)))
+  where
+    go : (t : Bool) {r q : ℕ} → suc r ≡ q → cond (not t) (1 + r) 0 ≡ cond t 0 q
+    go true e = refl
+    go false e = omega arith ∙ e
+
+-- `position` is the first of all places
+pub position_is : (p : ℕ → Bool) (xs : List ℕ) → position p xs ≡ found (length xs) (first_of (λ i. p (at xs i)) 0 (length xs))
+position_is p xs = rw first_position

@@ -2,8 +2,8 @@
 -- Assumes nothing.
 use Prim.Native.Nat.{ℕ, zero, suc, ◌*◌, ◌/◌, ◌%◌, ◌≤◌, ◌<◌}
 use mathlib.Core.Path.{◌≡◌, refl, sym, ◌∙◌}
-use mathlib.Core.Bool.{Bool, true, false, ◌||◌, false≢true}
-use native.Mathlib.Nat.{mul-le-mul, mul-le-mul_left}
+use mathlib.Core.Bool.{Bool, true, false, ◌||◌, or-true, false≢true}
+use native.Mathlib.Nat.{mul-le-mul}
 use native.Mathlib.Omega.{arith}
 use borrow.Author.Tests.{lt-ltb}
 use Rattle.board.specs.declared.Shape.{Shape}
@@ -19,10 +19,6 @@ pub neither : (t u : Bool) → t || u ≡ false → (t ≡ false) × (u ≡ fals
 neither true u e = absurd (false≢true (sym e))
 neither false u e = (refl, e)
 
-or_true : (t : Bool) → t || true ≡ true
-or_true true = refl
-or_true false = refl
-
 pub passing_side : (k : ℕ) → bad_side k ≡ false → Side k
 passing_side zero e = absurd (false≢true (sym e))
 passing_side (suc zero) e = absurd (false≢true (sym e))
@@ -32,7 +28,7 @@ passing_side (suc (suc (suc (suc zero)))) e = four
 passing_side (suc (suc (suc (suc (suc k))))) e = absurd (false≢true (sym e ∙ above))
   where
     above : bad_side (suc (suc (suc (suc (suc k))))) ≡ true
-    above = simp (lt-ltb 4 (suc (suc (suc (suc (suc k))))) (omega arith), or_true)
+    above = simp (lt-ltb 4 (suc (suc (suc (suc (suc k))))) (omega arith), or-true)
 
 pub record Within (low k high : ℕ) : Type 0 where
   pub least : low ≤ k
@@ -48,10 +44,6 @@ cells-within g =
     let w = side_within g.wide in
     let h = side_within g.high in
     record { least = mul-le-mul w.least h.least; most = mul-le-mul w.most h.most }
-
--- a cell is less than four widths
-pub few_widths : {s : Shape} → GoodShape s → (e : ℕ) → e < cells s → e < 4 * s.width
-few_widths {s} good e inside = omega (arith, mul-le-mul_left s.width (side_within good.high).most, inside)
 
 -- a cell's column is below the width, and its row below the height
 pub cell-column : {s : Shape} → GoodShape s → (i : ℕ) → column s i < s.width

@@ -8,6 +8,7 @@ use Rattle.board.specs.declared.Shape.{Shape}
 use Rattle.board.specs.Shape.{cells, GoodShape}
 use Rattle.board.specs.Moves.{stays_on, leads_to}
 use Rattle.board.specs.Distance.{way}
+use Rattle.board.proofs.theory.Sides.{cells-within}
 use Rattle.board.proofs.theory.Steps.{leads_by_step, leads_inside, step_elsewhere}
 
 passes : {t : Bool} → t ≡ true → T t
@@ -62,3 +63,6 @@ module _ (s : Shape) (e last m : ℕ) where
         go true p false q = subst (λ (k : ℕ). k < cells s) (sym (way_on p q)) (leads_inside s good e m below (passes p))
         go true p true q = subst (λ (k : ℕ). k < cells s) (sym (way_back q)) below
         go false p c q = subst (λ (k : ℕ). k < cells s) (sym (way_off p)) below
+
+-- what bounds a way, and its place in a shape's own table
+pub ruleset places = (cells-within, way-inside)

@@ -6,8 +6,8 @@ use Rattle.board_cases.proofs.show.Goals as goal
 
 pub show_sound-requires-clause-good_shape : goal.show_sound-requires-clause-good_shape
 show_sound-requires-clause-good_shape g c =
-    (sound_means _ _ _ _ (sym c.tested.ensures ∙ c.in-Sound.is)).1
+    (sound_means _ _ _ _ (sym c.tested-answer.ensures ∙ c.in-Ok.is)).1
 
 pub show_sound-requires-clause-board : goal.show_sound-requires-clause-board
 show_sound-requires-clause-board g c =
-    (sound_means _ _ _ _ (sym c.tested.ensures ∙ c.in-Sound.is)).2
+    (sound_means _ _ _ _ (sym c.tested-answer.ensures ∙ c.in-Ok.is)).2

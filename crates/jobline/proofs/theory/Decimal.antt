@@ -2,7 +2,7 @@
 -- number is 0, and how long it is. Assumes nothing.
 use Prim.Native.Nat.{ℕ, zero, suc, ◌+◌, ◌*◌, ◌-◌, ◌/◌, ◌%◌, ◌^◌, ◌≤◌, ◌<◌}
 use native.Mathlib.Omega.{arith}
-use native.Mathlib.Nat.{pow-suc}
+use native.Mathlib.Nat.{pow-suc, one-le-pow}
 use mathlib.Core.Path.{◌≡◌, refl, ap, sym, ◌∙◌}
 use mathlib.Core.Bool.{Bool, true, false}
 use mathlib.Core.List.{List, [], ◌∷◌, ◌++◌}
@@ -46,9 +46,6 @@ decimal-more zero h = absurd (omega arith)
 decimal-more (suc n) h =
     digits_more n (suc n) h
     ∙ ap (λ (s : List ℕ). s ++ (48 + suc n % 10) ∷ []) (digits_same n (suc n / 10) (suc n / 10) (omega arith) (omega arith))
-
-pub length_more : (n : ℕ) → 10 ≤ n → length (decimal (n / 10)) + 1 ≡ length (decimal n)
-length_more n h = rw (decimal-more n h, length-append)
 
 -- what holds of one digit, and of a digit more where it holds of those before it, holds of every number in decimal
 pub by_digits : (P : ℕ → List ℕ → Type 0) → ((n : ℕ) → n < 10 → P n ((48 + n) ∷ []))
@@ -103,9 +100,18 @@ decimal-length n k h =
     longer n h ih zero g = absurd (omega (arith, pow-suc 10 0))
     longer n h ih (suc k) g = rw length-append (omega (arith, ih k (omega (arith, pow-suc 10 (suc k)))))
 
-pub decimal-short : (n : ℕ) → length (decimal n) ≤ n + 1
-decimal-short n =
-    by_digits (λ n s. length s ≤ n + 1) (λ n h. omega arith) (λ n h e. rw length-append (omega arith)) n
+pub decimal-long : (n k : ℕ) → 10 ^ k ≤ n → suc k ≤ length (decimal n)
+decimal-long n k h =
+    by_digits (λ n s. (k : ℕ) → 10 ^ k ≤ n → suc k ≤ length s) short longer n k h
+  where
+    short : (n : ℕ) → n < 10 → (k : ℕ) → 10 ^ k ≤ n → suc k ≤ 1
+    short n h zero g = omega arith
+    short n h (suc k) g = absurd (omega (arith, pow-suc 10 k, one-le-pow k 10 (omega arith)))
+
+    longer : (n : ℕ) → 10 ≤ n → ((k : ℕ) → 10 ^ k ≤ n / 10 → suc k ≤ length (decimal (n / 10)))
+        → (k : ℕ) → 10 ^ k ≤ n → suc k ≤ length (decimal (n / 10) ++ (48 + n % 10) ∷ [])
+    longer n h ih zero g = rw length-append (omega arith)
+    longer n h ih (suc k) g = rw length-append (omega (arith, ih k (omega (arith, pow-suc 10 k))))
 
 -- a number of at most nine digits in decimal is a number of the grammar
 pub decimal_numeral : (n : ℕ) → n < 1000000000 → Numeral (decimal n) n

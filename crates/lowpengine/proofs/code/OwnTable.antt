@@ -10,7 +10,7 @@ use lib.IntN.{ℤ}
 use lib.ListN.{length, take, drop, replicate}
 use lib.Seq.{length-take-le}
 use borrow.Author.Tests.{ltb-true, ltb-false, lt-ltb, le-ltb}
-use Rattle.planner.specs.declared.Answer.{Answer}
+use Rattle.planner.specs.Answer.{Answer}
 use Rattle.search.specs.Run.{rows_for}
 use Rattle.planner.specs.Limits.{bad_ceiling, ceiling_of}
 use Rattle.planner.specs.Answer.{Call, short_buffer, answered, called, Settles, number, cell, plan_length, search_ran}

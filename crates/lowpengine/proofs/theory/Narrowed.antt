@@ -1,5 +1,6 @@
 -- What the record reader accepts fits the bits of its fields: by the tests, sides are at most 4, ceiling and length at most 120, the
 -- weight's numbers at most 64 and the visits at most 1,000,000. Assumes nothing.
+use Rattle.std.specs.Prelude.{Ok, Err}
 use Prim.Native.Nat.{ℕ, ◌+◌, ◌≤◌}
 use mathlib.Core.Path.{◌≡◌, refl, subst}
 use mathlib.Core.Bool.{Bool}
@@ -18,9 +19,8 @@ use Rattle.records.specs.declared.Numbers.{Numbers}
 use Rattle.records.specs.declared.PlanRefusal.TheVariants.{Board, Beyond}
 use Rattle.records.specs.declared.ReadRefusal.{ReadRefusal}
 use Rattle.records.specs.declared.ReadRefusal.TheVariants.{Plan}
-use Rattle.records.specs.declared.ReadAnswer.TheVariants.{Fields}
 use Rattle.records.specs.Write.{fields_of, list_tests, plan_tests}
-use Rattle.records.specs.Read.{Begun, begun, halted, given_of, no_room, reading_tests, end_tests, moves_at, leaves_read, begun_read}
+use Rattle.records.specs.Read.{Begun, given_of, no_room, reading_tests, end_tests, moves_at, leaves_read, begun_read}
 use Rattle.records.specs.Read.{numbers_in}
 use Rattle.records.specs.Read.{read_back}
 use Rattle.lowpengine.specs.Packed.{Narrow, NarrowIn}
@@ -73,10 +73,10 @@ behind-end bytes found n cells at (past long (past exact (past sealed rest))) =
     append_nil' : (ts : List (Test ReadRefusal)) → ts ≡ ts ++ []
     append_nil' ts = rw (append-nil ts) refl
 
-accepted : (bytes found : List ℕ) (o : Begun) (n : Numbers) → (begun_read bytes found o).answer ≡ Fields n → Narrow n
+accepted : (bytes found : List ℕ) (o : Begun) (n : Numbers) → (begun_read bytes found o).answer ≡ Ok n → Narrow n
 unfolding leaves_read
-accepted bytes found (halted why) n e = let z : ◌≡◌ {A = ℕ} 0 1 = cc in absurd (omega arith)
-accepted bytes found (begun m cells at) n e = go (first_refusal tests) refl e
+accepted bytes found (Err why) n e = let z : ◌≡◌ {A = ℕ} 0 1 = cc in absurd (omega arith)
+accepted bytes found (Ok (m, cells, at)) n e = go (first_refusal tests) refl e
   where
     moves : List ℕ
     moves = moves_at bytes at m.length
@@ -84,7 +84,7 @@ accepted bytes found (begun m cells at) n e = go (first_refusal tests) refl e
     tests : List (Test ReadRefusal)
     tests = end_tests bytes (at + m.length) ++ under Plan (reading_tests m cells moves found)
 
-    go : (o : Option ReadRefusal) → first_refusal tests ≡ o → (leaves_read m cells moves found o).answer ≡ Fields n → Narrow n
+    go : (o : Option ReadRefusal) → first_refusal tests ≡ o → (leaves_read m cells moves found o).answer ≡ Ok n → Narrow n
     go (some why) is e = let z : ◌≡◌ {A = ℕ} 0 1 = cc in absurd (omega arith)
     go none is e = let same : m ≡ n = cc in subst Narrow same (behind-end bytes found m cells at (none_means tests is))
 

@@ -1,17 +1,17 @@
 -- A packed answer is taken apart again: fields that stand apart come back as they were. First the four fields of a plan's answer, then the
 -- two of a play's and of the record writer's, then the eight of a record that was read. Assumes nothing.
+use Rattle.std.specs.Prelude.{Result, Ok}
 use Prim.Native.Nat.{ℕ, ◌/◌, ◌%◌, ◌^◌}
 use mathlib.Core.Path.{◌≡◌}
 use native.Mathlib.Omega.{arith}
 use Rattle.planner.specs.Answer.{Call, answered, number, cell, plan_length, visits}
 use Rattle.planner.proofs.theory.Small.{answered-small}
-use Rattle.player.specs.declared.Played.{Played}
+use Rattle.player.specs.Play.{Played}
 use Rattle.player.specs.Answers.{answer_number}
-use Rattle.records.specs.declared.Written.{Written}
+use Rattle.records.specs.declared.PlanRefusal.{PlanRefusal}
+use Rattle.records.specs.declared.ReadRefusal.{ReadRefusal}
 use Rattle.records.specs.Answers.{answer_number as written_number}
 use Rattle.records.specs.declared.Numbers.{Numbers}
-use Rattle.records.specs.declared.ReadAnswer.{ReadAnswer}
-use Rattle.records.specs.declared.ReadAnswer.TheVariants.{Fields}
 use Rattle.records.specs.Readings.{reading_number}
 use Rattle.lowpengine.specs.Packed.{Apart, packed, packed_plan, play_detail, packed_play, record_detail, packed_record}
 use Rattle.lowpengine.specs.Packed.{Narrow, reading_detail, packed_reading}
@@ -45,17 +45,17 @@ pub play_detail_read : (a : Played) → packed_play a / 256 ≡ play_detail a
 play_detail_read a = omega (arith, play_number a)
 
 -- any answer of the record writer
-pub record_number-read : (a : Written) → packed_record a % 256 ≡ written_number a
+pub record_number-read : (a : Result ℕ PlanRefusal) → packed_record a % 256 ≡ written_number a
 record_number-read a = omega (arith, record_number a)
 
-pub record_detail_read : (a : Written) → packed_record a / 256 ≡ record_detail a
+pub record_detail_read : (a : Result ℕ PlanRefusal) → packed_record a / 256 ≡ record_detail a
 record_detail_read a = omega (arith, record_number a)
 
 -- any answer of the record reader
-pub reading-number-read : (a : ReadAnswer) → packed_reading a % 256 ≡ reading_number a
+pub reading-number-read : (a : Result Numbers ReadRefusal) → packed_reading a % 256 ≡ reading_number a
 reading-number-read a = omega (arith, reading-number a)
 
-pub reading_detail_read : (a : ReadAnswer) → packed_reading a / 256 ≡ reading_detail a
+pub reading_detail_read : (a : Result Numbers ReadRefusal) → packed_reading a / 256 ≡ reading_detail a
 reading_detail_read a = omega (arith, reading-number a)
 
 -- x read as the numbers of a record
@@ -69,7 +69,7 @@ pub record ReadsNumbers (x : ℕ) (n : Numbers) : Type 0 where
   pub length-read : x / 2 ^ 35 % 128 ≡ n.length
   pub visits-read : x / 2 ^ 42 ≡ n.visits
 
-pub numbers-read : (n : Numbers) → Narrow n → ReadsNumbers (packed_reading (Fields n)) n
+pub numbers-read : (n : Numbers) → Narrow n → ReadsNumbers (packed_reading (Ok n)) n
 numbers-read n narrow =
     record {
       number_read = omega arith;

@@ -1,7 +1,8 @@
 -- How large an answer is: a play's number is at most 14, the record writer's and the reader's at most 22, and the detail of each at most
 -- 2^56 - 1.
 -- Assumes nothing.
-use Prim.Native.Nat.{◌≤◌}
+use Rattle.std.specs.Prelude.{Result, Ok, Err}
+use Prim.Native.Nat.{ℕ, ◌≤◌}
 use mathlib.Core.Path.{refl}
 use mathlib.Core.Bool.{Bool, true, false, cond}
 use native.Mathlib.Omega.{arith}
@@ -10,8 +11,7 @@ use Rattle.board.specs.declared.Fault.TheVariants.{BadShape, BadLength, TooLarge
 use Rattle.board.specs.Faults.{fault_number}
 use Rattle.player.specs.declared.PlayRefusal.{PlayRefusal}
 use Rattle.player.specs.declared.PlayRefusal.TheVariants.{Board, ShortOutput, NoMove, OffGrid}
-use Rattle.player.specs.declared.Played.{Played}
-use Rattle.player.specs.declared.Played.TheVariants.{End, Refused}
+use Rattle.player.specs.Play.{Played}
 use Rattle.player.specs.Answers.{refusal_number, answer_number}
 use Rattle.planner.specs.declared.Limit.{Limit}
 use Rattle.planner.specs.declared.Limit.TheVariants.{BadCeiling, BadBudget, BadWeight, NotLowest}
@@ -19,14 +19,10 @@ use Rattle.planner.specs.Limits.{limit_number}
 use Rattle.records.specs.declared.PlanRefusal.{PlanRefusal}
 use Rattle.records.specs.declared.PlanRefusal.TheVariants.{Beyond, TooLong, NotSolved}
 use Rattle.records.specs.declared.PlanRefusal.TheVariants.{Board as BadBoard, ShortOutput as NoRoom, NoMove as NoSuch, OffGrid as Off}
-use Rattle.records.specs.declared.Written.{Written}
-use Rattle.records.specs.declared.Written.TheVariants.{Record, Refused as Unwritten}
 use Rattle.records.specs.Answers.{refusal_number as unwritten_number, answer_number as written_number}
 use Rattle.records.specs.declared.Numbers.{Numbers}
 use Rattle.records.specs.declared.ReadRefusal.{ReadRefusal}
 use Rattle.records.specs.declared.ReadRefusal.TheVariants.{CutShort, BadNumber, BadSide, LongList, BytesAfter, WrongMark, Plan}
-use Rattle.records.specs.declared.ReadAnswer.{ReadAnswer}
-use Rattle.records.specs.declared.ReadAnswer.TheVariants.{Fields, Refused as Unread}
 use Rattle.records.specs.Readings.{unread_number, reading_number}
 use Rattle.lowpengine.specs.Packed.{farthest, play_detail, record_detail, Narrow, NarrowIn, packed_numbers, reading_detail}
 
@@ -43,16 +39,16 @@ refusal-number (NoMove i) = omega arith
 refusal-number (OffGrid i) = omega arith
 
 pub play_number : (a : Played) → answer_number a ≤ 14
-play_number (End goal) = omega arith
-play_number (Refused why) = refusal-number why
+play_number (Ok goal) = omega arith
+play_number (Err why) = refusal-number why
 
 goal_detail : (goal : Bool) → cond goal 1 0 ≤ farthest
 goal_detail true = omega arith
 goal_detail false = omega arith
 
 pub play-detail : (a : Played) → play_detail a ≤ farthest
-play-detail (End goal) = goal_detail goal
-play-detail (Refused why) = omega arith
+play-detail (Ok goal) = goal_detail goal
+play-detail (Err why) = omega arith
 
 pub fault-some : (f : Fault) → 1 ≤ fault_number f
 fault-some BadShape = omega arith
@@ -91,13 +87,13 @@ unwritten_some (Off i) = omega arith
 unwritten_some NotSolved = omega arith
 unwritten_some NoRoom = omega arith
 
-pub record_number : (a : Written) → written_number a ≤ 22
-record_number (Record length) = omega arith
-record_number (Unwritten why) = unwritten_number_lem why
+pub record_number : (a : Result ℕ PlanRefusal) → written_number a ≤ 22
+record_number (Ok length) = omega arith
+record_number (Err why) = unwritten_number_lem why
 
-pub record-detail : (a : Written) → record_detail a ≤ farthest
-record-detail (Record length) = omega arith
-record-detail (Unwritten why) = omega arith
+pub record-detail : (a : Result ℕ PlanRefusal) → record_detail a ≤ farthest
+record-detail (Ok length) = omega arith
+record-detail (Err why) = omega arith
 
 unread-number : (why : ReadRefusal) → unread_number why ≤ 22
 unread-number (CutShort i) = omega arith
@@ -118,13 +114,13 @@ unread_some (BytesAfter i) = omega arith
 unread_some WrongMark = omega arith
 unread_some (Plan why) = unwritten_some why
 
-pub reading-number : (a : ReadAnswer) → reading_number a ≤ 22
-reading-number (Fields n) = omega arith
-reading-number (Unread why) = unread-number why
+pub reading-number : (a : Result Numbers ReadRefusal) → reading_number a ≤ 22
+reading-number (Ok n) = omega arith
+reading-number (Err why) = unread-number why
 
 numbers_detail : (n : Numbers) → Narrow n → packed_numbers n ≤ farthest
 numbers_detail n narrow = omega arith
 
-pub reading-detail : (a : ReadAnswer) → NarrowIn a → reading_detail a ≤ farthest
-reading-detail (Fields n) narrow = numbers_detail n (narrow n refl)
-reading-detail (Unread why) narrow = omega arith
+pub reading-detail : (a : Result Numbers ReadRefusal) → NarrowIn a → reading_detail a ≤ farthest
+reading-detail (Ok n) narrow = numbers_detail n (narrow n refl)
+reading-detail (Err why) narrow = omega arith

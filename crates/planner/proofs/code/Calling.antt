@@ -13,8 +13,8 @@ use Rattle.search.specs.Search.{Outcome, found, value, spent}
 use Rattle.search.specs.Run.{told, written, of_job, Searched}
 use Rattle.search.proofs.theory.Theory.{plan_counts, value_counts}
 use Rattle.planner.specs.declared.Terms.{Terms}
-use Rattle.planner.specs.declared.Answer.{Answer}
-use Rattle.planner.specs.declared.Answer.TheVariants.{Planned}
+use Rattle.planner.specs.Answer.{Answer}
+use Rattle.std.specs.Prelude.{Ok}
 use Rattle.planner.specs.Limits.{ceiling_of}
 use Rattle.planner.specs.Answer.{Call, cleared, tests, searched, concluded, answered, within, Settles}
 use Rattle.planner.specs.Ends.{LeftWithin, answer_of}
@@ -38,7 +38,7 @@ concludes : (c : Call) (o : Outcome) → Settles (concluded c o) (answer_of c.bu
 unfolding concluded told written
 concludes c (found ms left) =
     record {
-      answer = ap (λ (n : ℕ). Planned (record { length = n; visits = c.budget - left })) (zero-add (length ms));
+      answer = ap (λ (n : ℕ). Ok (record { length = n; visits = c.budget - left })) (zero-add (length ms));
       moves = ap (λ (n : ℕ). ms ++ drop n c.moves) (zero-add (length ms));
       table = refl;
     }

@@ -13,7 +13,6 @@ use mir.Val.{SFits, to_z, of_z}
 use mir.ValLaws.{to_z-of_z}
 use Rattle.board.specs.declared.Shape.{Shape}
 use Rattle.board.specs.declared.Fault.{Fault}
-use Rattle.board.specs.declared.Tested.TheVariants.{Sound, Faulty}
 use Rattle.board.specs.Shape.{GoodShape}
 use Rattle.board.specs.Board.{IsBoard}
 use Rattle.board.specs.Tests.{first_refusal, FirstToHold, here, later, NoneHolds, end, past}
@@ -24,12 +23,10 @@ use Rattle.search.specs.Run.{SmallJob, Room}
 use Rattle.planner.specs.declared.Limit.{Limit}
 use Rattle.planner.specs.declared.Limit.TheVariants.{BadCeiling, BadBudget, BadWeight, NotLowest}
 use Rattle.planner.specs.declared.Terms.{Terms}
-use Rattle.planner.specs.declared.Measured.{Measured}
-use Rattle.planner.specs.declared.Measured.TheVariants.{Within, Outside}
+use Rattle.std.specs.Prelude.{Result, Ok, Err}
 use Rattle.planner.specs.declared.Refusal.{Refusal}
 use Rattle.planner.specs.declared.Refusal.TheVariants.{Board, Beyond, ShortBuffer, OddBoard}
-use Rattle.planner.specs.declared.Answer.{Answer}
-use Rattle.planner.specs.declared.Answer.TheVariants.{Refused}
+use Rattle.planner.specs.Answer.{Answer}
 use Rattle.planner.specs.Limits.{bad_ceiling, ceiling_of, bad_budget, bad_weight, shares_divisor, limit_tests, said_of, measured}
 use Rattle.planner.specs.Answer.{Call, short_buffer, last_tests, tests, answered, called, within, Settles}
 use Rattle.planner.proofs.theory.Passing.{ceiling-passes, ceiling-named, weight-passes, buffers_pass, Kept, limits-kept}
@@ -44,38 +41,38 @@ told e f = sym e ∙ f
 pub read_back_lem : {z : ℤ} {r : Bool} → SFits w32 z → r ≡ bad_ceiling (to_z w32 (of_z w32 z)) → r ≡ bad_ceiling z
 read_back_lem {z} fits e = e ∙ ap bad_ceiling (to_z-of_z w32 z fits)
 
-pub measured-back : (z : ℤ) (budget p q : ℕ) {r : Measured} → SFits w32 z → r ≡ measured (to_z w32 (of_z w32 z)) budget p q
+pub measured-back : (z : ℤ) (budget p q : ℕ) {r : Result Terms Limit} → SFits w32 z → r ≡ measured (to_z w32 (of_z w32 z)) budget p q
     → r ≡ measured z budget p q
 measured-back z budget p q fits e = e ∙ ap (λ (y : ℤ). measured y budget p q) (to_z-of_z w32 z fits)
 
 -- ---- tests 5 to 7 and 15
 
 module _ (z : ℤ) (budget p q : ℕ) where
-  pub outside_5 : bad_ceiling z ≡ true → Outside BadCeiling ≡ measured z budget p q
+  pub outside_5 : bad_ceiling z ≡ true → Err BadCeiling ≡ measured z budget p q
   unfolding measured limit_tests said_of first_refusal
   outside_5 five = rw five
 
-  pub outside_6 : bad_ceiling z ≡ false → bad_budget budget ≡ true → Outside BadBudget ≡ measured z budget p q
+  pub outside_6 : bad_ceiling z ≡ false → bad_budget budget ≡ true → Err BadBudget ≡ measured z budget p q
   unfolding measured limit_tests said_of first_refusal
   outside_6 five six = rw (five, six)
 
-  pub outside_7 : bad_ceiling z ≡ false → bad_budget budget ≡ false → bad_weight p q ≡ true → Outside BadWeight ≡ measured z budget p q
+  pub outside_7 : bad_ceiling z ≡ false → bad_budget budget ≡ false → bad_weight p q ≡ true → Err BadWeight ≡ measured z budget p q
   unfolding measured limit_tests said_of first_refusal
   outside_7 five six seven = rw (five, six, seven)
 
   pub outside_15 : bad_ceiling z ≡ false → bad_budget budget ≡ false → bad_weight p q ≡ false → shares_divisor p q ≡ true
-      → Outside NotLowest ≡ measured z budget p q
+      → Err NotLowest ≡ measured z budget p q
   unfolding measured limit_tests said_of first_refusal
   outside_15 five six seven fifteen = rw (five, six, seven, fifteen)
 
   pub within_all : (k : ℕ) → k ≡ ceiling_of z → bad_ceiling z ≡ false → bad_budget budget ≡ false → bad_weight p q ≡ false
-      → shares_divisor p q ≡ false → Within (record { ceiling = k; weight = record { p = p; q = q } }) ≡ measured z budget p q
+      → shares_divisor p q ≡ false → Ok (record { ceiling = k; weight = record { p = p; q = q } }) ≡ measured z budget p q
   unfolding measured limit_tests said_of first_refusal
   within_all k is five six seven fifteen =
-      rw (five, six, seven, fifteen) (ap (λ (n : ℕ). Within (record { ceiling = n; weight = record { p = p; q = q } })) is)
+      rw (five, six, seven, fifteen) (ap (λ (n : ℕ). Ok (record { ceiling = n; weight = record { p = p; q = q } })) is)
 
 -- the terms that are named keep the limits
-pub terms_kept : (z : ℤ) (budget p q : ℕ) (t : Terms) → measured z budget p q ≡ Within t
+pub terms_kept : (z : ℤ) (budget p q : ℕ) (t : Terms) → measured z budget p q ≡ Ok t
     → NoneHolds (limit_tests (pos t.ceiling) budget t.weight.p t.weight.q)
 terms_kept z budget p q t e =
     let means = within_means z budget p q t e in
@@ -85,15 +82,15 @@ terms_kept z budget p q t e =
 
 -- ---- what a test that holds settles
 
-settles_by : (c : Call) (r : Refusal) → FirstToHold (tests c) r → Settles (answered c) (Refused r) c.moves c.table
+settles_by : (c : Call) (r : Refusal) → FirstToHold (tests c) r → Settles (answered c) (Err r) c.moves c.table
 settles_by c r first = rw (refused_by c first) (record { answer = refl; moves = refl; table = refl })
 
-pub refused-board : (c : Call) (f : Fault) → tested c.width c.height c.board ≡ Faulty f
-    → Settles (answered c) (Refused (Board f)) c.moves c.table
+pub refused-board : (c : Call) (f : Fault) → tested c.width c.height c.board ≡ Err f
+    → Settles (answered c) (Err (Board f)) c.moves c.table
 unfolding tests
 refused-board c f e = settles_by c (Board f) (front-given Board _ (faulty_means c.width c.height c.board f e))
 
-pub sound-board : (w h : ℕ) (b : List ℕ) (s : Shape) → tested w h b ≡ Sound s → GoodShape s × IsBoard s b
+pub sound-board : (w h : ℕ) (b : List ℕ) (s : Shape) → tested w h b ≡ Ok s → GoodShape s × IsBoard s b
 sound-board w h b s e = let means = sound_means w h b s e in (means.1, means.2)
 
 -- the ceiling is handed on as the same number
@@ -103,14 +100,13 @@ pub same-ceiling : (w h : ℕ) (b : List ℕ) (z y : ℤ) (budget p q : ℕ) (mo
 same-ceiling w h b z y budget p q moves table r moves' table' same settled =
     subst (λ (x : ℤ). Settles (answered (called w h b x budget p q moves table)) r moves' table') same settled
 
--- the board is sound, and what follows is settled for its shape, with the ceiling handed on
-pub of-sound : (w h : ℕ) (b : List ℕ) (z y : ℤ) (budget p q : ℕ) (moves table : List ℕ) (s : Shape) (r : Answer) (moves' table' : List ℕ)
-    → tested w h b ≡ Sound s → y ≡ z → Settles (answered (called s.width s.height b y budget p q moves table)) r moves' table'
+-- the board is sound, and what is settled for its shape is settled for the width and the height that were given
+of-sound : (w h : ℕ) (b : List ℕ) (z : ℤ) (budget p q : ℕ) (moves table : List ℕ) (s : Shape) (r : Answer) (moves' table' : List ℕ)
+    → tested w h b ≡ Ok s → Settles (answered (called s.width s.height b z budget p q moves table)) r moves' table'
     → Settles (answered (called w h b z budget p q moves table)) r moves' table'
-of-sound w h b z y budget p q moves table s r moves' table' e same settled =
-    same-ceiling w h b z y budget p q moves table r moves' table' same
-    (subst (λ (s' : Shape). Settles (answered (called s'.width s'.height b y budget p q moves table)) r moves' table')
-    (sound_means w h b s e).0 settled)
+of-sound w h b z budget p q moves table s r moves' table' e settled =
+    subst (λ (s' : Shape). Settles (answered (called s'.width s'.height b z budget p q moves table)) r moves' table')
+    (sound_means w h b s e).0 settled
 
 -- ---- a sound board: tests 5 to 7 and 15
 
@@ -119,15 +115,15 @@ module _ (s : Shape) (b : List ℕ) (sound : GoodShape s × IsBoard s b) where
   faultless = none-faulty s.width s.height b s (faultless-sound s b sound.0 sound.1)
 
   module _ (z : ℤ) (budget p q : ℕ) (moves table : List ℕ) where
-    pub refused_limit : (l : Limit) → measured z budget p q ≡ Outside l
-        → Settles (answered (called s.width s.height b z budget p q moves table)) (Refused (Beyond l)) moves table
+    refused_limit : (l : Limit) → measured z budget p q ≡ Err l
+        → Settles (answered (called s.width s.height b z budget p q moves table)) (Err (Beyond l)) moves table
     unfolding tests
     refused_limit l e =
         settles_by (called s.width s.height b z budget p q moves table) (Beyond l)
         (behind-given Board faultless (front-given Beyond _ (outside_means z budget p q l e)))
 
     -- what is settled of the terms is settled of the call that named them
-    pub of_terms : (t : Terms) (r : Answer) (moves' table' : List ℕ) → measured z budget p q ≡ Within t
+    of_terms : (t : Terms) (r : Answer) (moves' table' : List ℕ) → measured z budget p q ≡ Ok t
         → Settles (answered (within s b t budget moves table)) r moves' table'
         → Settles (answered (called s.width s.height b z budget p q moves table)) r moves' table'
     of_terms t r moves' table' e settled =
@@ -156,17 +152,17 @@ module _ (s : Shape) (b : List ℕ) (sound : GoodShape s × IsBoard s b) where
     -- ---- tests 8 and 9
 
     last_settles : (r : Refusal) → FirstToHold (last_tests (within s b t budget moves table)) r
-        → Settles (answered (within s b t budget moves table)) (Refused r) moves table
+        → Settles (answered (within s b t budget moves table)) (Err r) moves table
     unfolding tests
     last_settles r first = settles_by (within s b t budget moves table) r (behind-given Board faultless (behind-given Beyond kept first))
 
     pub refused-short : short_buffer t.ceiling (length moves) (length table) ≡ true
-        → Settles (answered (within s b t budget moves table)) (Refused ShortBuffer) moves table
+        → Settles (answered (within s b t budget moves table)) (Err ShortBuffer) moves table
     unfolding last_tests ceiling_of
     refused-short eight = last_settles ShortBuffer (here eight)
 
     pub refused-odd : short_buffer t.ceiling (length moves) (length table) ≡ false → is_odd s b ≡ true
-        → Settles (answered (within s b t budget moves table)) (Refused OddBoard) moves table
+        → Settles (answered (within s b t budget moves table)) (Err OddBoard) moves table
     unfolding last_tests ceiling_of
     refused-odd eight nine = last_settles OddBoard (later eight (here nine))
 
@@ -181,3 +177,19 @@ module _ (s : Shape) (b : List ℕ) (sound : GoodShape s × IsBoard s b) where
     room-passed eight =
         let both = buffers_pass t.ceiling (length moves) (length table) eight in
         record { rows = both.1; path = both.0 }
+
+-- ---- a call as it was given, whose first tests were passed
+
+module _ (w h : ℕ) (b : List ℕ) (s : Shape) (shape : tested w h b ≡ Ok s) (z : ℤ) (budget p q : ℕ) (moves table : List ℕ) where
+  pub refused-limit : (l : Limit) → measured z budget p q ≡ Err l
+      → Settles (answered (called w h b z budget p q moves table)) (Err (Beyond l)) moves table
+  refused-limit l e =
+      of-sound w h b z budget p q moves table s _ _ _ shape
+      (refused_limit s b (sound-board w h b s shape) z budget p q moves table l e)
+
+  pub of-terms : (t : Terms) (r : Answer) (moves' table' : List ℕ) → measured z budget p q ≡ Ok t
+      → Settles (answered (within s b t budget moves table)) r moves' table'
+      → Settles (answered (called w h b z budget p q moves table)) r moves' table'
+  of-terms t r moves' table' terms settled =
+      of-sound w h b z budget p q moves table s r moves' table' shape
+      (of_terms s b (sound-board w h b s shape) z budget p q moves table t r moves' table' terms settled)

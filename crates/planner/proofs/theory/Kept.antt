@@ -31,8 +31,8 @@ use Rattle.planner.specs.declared.Plan.{Plan}
 use Rattle.planner.specs.declared.Limit.{Limit}
 use Rattle.planner.specs.declared.Refusal.{Refusal}
 use Rattle.planner.specs.declared.Refusal.TheVariants.{Board, Beyond, ShortBuffer, OddBoard, NoPlan, OutOfVisits}
-use Rattle.planner.specs.declared.Answer.{Answer}
-use Rattle.planner.specs.declared.Answer.TheVariants.{Planned, Refused}
+use Rattle.planner.specs.Answer.{Answer}
+use Rattle.std.specs.Prelude.{Ok, Err}
 use Rattle.planner.specs.Limits.{bad_ceiling, ceiling_of, limit_tests, limit_number}
 use Rattle.planner.specs.Answer.{Call, Left, shape_of, weight_of, cleared, last_tests, tests, searched, untouched, concluded, answered}
 use Rattle.planner.specs.Answer.{called, refusal_number, TestNumber, LateNumber, SearchNumber, number, visits}
@@ -146,10 +146,10 @@ ceiling-below_zero c n below = go (way c)
 -- ---- B1
 
 -- each refusal by a test is given exactly when its test is the first that holds
-pub given_exactly : (c : Call) (r : Refusal) → TestNumber (refusal_number r) → ((answered c).answer ≡ Refused r) ↔ FirstToHold (tests c) r
+pub given_exactly : (c : Call) (r : Refusal) → TestNumber (refusal_number r) → ((answered c).answer ≡ Err r) ↔ FirstToHold (tests c) r
 given_exactly c r early = (λ e. first r early (made-from c e), λ first. ap (λ (l : Left). l.answer) (refused_by c first))
   where
-    first : (r' : Refusal) → TestNumber (refusal_number r') → From c (Refused r') → FirstToHold (tests c) r'
+    first : (r' : Refusal) → TestNumber (refusal_number r') → From c (Err r') → FirstToHold (tests c) r'
     first (Board f) h it = it.first
     first (Beyond l) h it = it.first
     first ShortBuffer h it = it.first
@@ -229,7 +229,7 @@ found-made c clean ms left run w =
     moves_are : (answered c).moves ≡ ms ++ drop (length ms) c.moves
     moves_are = ap (λ (l : Left). l.moves) w
 
-pub plan-made : (c : Call) (pl : Plan) → (answered c).answer ≡ Planned pl → PlanMade c pl
+pub plan-made : (c : Call) (pl : Plan) → (answered c).answer ≡ Ok pl → PlanMade c pl
 plan-made c pl e =
     let from = made-from c e in
     subst (PlanMade c) (sym from.is) (found-made c (clear c from.passed) from.moves from.left from.run from.all)
@@ -240,13 +240,13 @@ pub visits-counted : (c : Call) → visits (answered c).answer ≤ c.budget
 visits-counted c = go (answered c).answer refl
   where
     go : (a : Answer) → (answered c).answer ≡ a → visits a ≤ c.budget
-    go (Planned pl) e = (plan-made c pl e).counted.1
-    go (Refused (Board f)) e = omega arith
-    go (Refused (Beyond l)) e = omega arith
-    go (Refused ShortBuffer) e = omega arith
-    go (Refused OddBoard) e = omega arith
-    go (Refused (NoPlan v)) e = let from : NoPlanFrom c v = made-from c e in omega (arith, from.is)
-    go (Refused (OutOfVisits v)) e = let from : SpentFrom c v = made-from c e in omega (arith, from.is)
+    go (Ok pl) e = (plan-made c pl e).counted.1
+    go (Err (Board f)) e = omega arith
+    go (Err (Beyond l)) e = omega arith
+    go (Err ShortBuffer) e = omega arith
+    go (Err OddBoard) e = omega arith
+    go (Err (NoPlan v)) e = let from : NoPlanFrom c v = made-from c e in omega (arith, from.is)
+    go (Err (OutOfVisits v)) e = let from : SpentFrom c v = made-from c e in omega (arith, from.is)
 
 -- ---- 10 and 11
 
@@ -257,11 +257,11 @@ pub record Returned (c : Call) (v : ℕ) : Type 0 where
   pub run : searched c ≡ value infinity left
   pub count : v ≡ c.budget - left
 
-pub no_plan-is : (c : Call) (v : ℕ) → ((answered c).answer ≡ Refused (NoPlan v)) ↔ Returned c v
+pub no_plan-is : (c : Call) (v : ℕ) → ((answered c).answer ≡ Err (NoPlan v)) ↔ Returned c v
 unfolding concluded
 no_plan-is c v = (given, gives)
   where
-    given : (answered c).answer ≡ Refused (NoPlan v) → Returned c v
+    given : (answered c).answer ≡ Err (NoPlan v) → Returned c v
     given e =
         let from : NoPlanFrom c v = made-from c e in
         let infinite = value-is_infinite c (clear c from.passed) from.returned from.left from.run in
@@ -272,10 +272,10 @@ no_plan-is c v = (given, gives)
           count = from.is;
         }
 
-    gives : Returned c v → (answered c).answer ≡ Refused (NoPlan v)
-    gives it = ap (λ (l : Left). l.answer) (ran_to c it.passed it.run) ∙ ap (λ (n : ℕ). Refused (NoPlan n)) (sym it.count)
+    gives : Returned c v → (answered c).answer ≡ Err (NoPlan v)
+    gives it = ap (λ (l : Left). l.answer) (ran_to c it.passed it.run) ∙ ap (λ (n : ℕ). Err (NoPlan n)) (sym it.count)
 
-pub no_plan_means : (c : Call) (v : ℕ) → (answered c).answer ≡ Refused (NoPlan v) → (ds : List ℕ) → Solves (shape_of c) c.board ds
+pub no_plan_means : (c : Call) (v : ℕ) → (answered c).answer ≡ Err (NoPlan v) → (ds : List ℕ) → Solves (shape_of c) c.board ds
     → ceiling_of c.ceiling < length ds
 no_plan_means c v e =
     let from : NoPlanFrom c v = made-from c e in
@@ -283,7 +283,7 @@ no_plan_means c v e =
 
 -- 10 with one visit where the board's distance is above the ceiling
 pub at_once : (c : Call) → NoneHolds (tests c) → ceiling_of c.ceiling < distance (shape_of c) c.board
-    → (answered c).answer ≡ Refused (NoPlan 1)
+    → (answered c).answer ≡ Err (NoPlan 1)
 unfolding concluded searched
 at_once c passed far =
     let clean = clear c passed in
@@ -291,7 +291,7 @@ at_once c passed far =
     let one : c.budget - (c.budget - 1) ≡ 1 = omega arith in
     ap (λ (l : Left). l.answer)
     (ran_to c passed (above-at-once _ _ (laws c clean) _ (ceiling_of c.ceiling) c.board clean.board far c.budget some))
-    ∙ ap (λ (n : ℕ). Refused (NoPlan n)) one
+    ∙ ap (λ (n : ℕ). Err (NoPlan n)) one
 
 -- 11 exactly where no test holds and the search is spent
 pub record OutOf (c : Call) (v : ℕ) : Type 0 where
@@ -299,26 +299,26 @@ pub record OutOf (c : Call) (v : ℕ) : Type 0 where
   pub run : searched c ≡ spent
   pub count : v ≡ c.budget
 
-pub out-of-visits-is : (c : Call) (v : ℕ) → ((answered c).answer ≡ Refused (OutOfVisits v)) ↔ OutOf c v
+pub out-of-visits-is : (c : Call) (v : ℕ) → ((answered c).answer ≡ Err (OutOfVisits v)) ↔ OutOf c v
 unfolding concluded
 out-of-visits-is c v = (given, gives)
   where
-    given : (answered c).answer ≡ Refused (OutOfVisits v) → OutOf c v
+    given : (answered c).answer ≡ Err (OutOfVisits v) → OutOf c v
     given e = let from : SpentFrom c v = made-from c e in record { passed = from.passed; run = from.run; count = from.is }
 
-    gives : OutOf c v → (answered c).answer ≡ Refused (OutOfVisits v)
-    gives it = ap (λ (l : Left). l.answer) (ran_to c it.passed it.run) ∙ ap (λ (n : ℕ). Refused (OutOfVisits n)) (sym it.count)
+    gives : OutOf c v → (answered c).answer ≡ Err (OutOfVisits v)
+    gives it = ap (λ (l : Left). l.answer) (ran_to c it.passed it.run) ∙ ap (λ (n : ℕ). Err (OutOfVisits n)) (sym it.count)
 
 -- the same call with another budget
 abbrev pub budgeted : Call → ℕ → Call
 budgeted c budget = called c.width c.height c.board c.ceiling budget c.p c.q c.moves c.table
 
 -- where the search is spent, it makes more visits than the budget at every budget at which it ends
-module _ (c : Call) (v : ℕ) (out : (answered c).answer ≡ Refused (OutOfVisits v)) (budget : ℕ) where
+module _ (c : Call) (v : ℕ) (out : (answered c).answer ≡ Err (OutOfVisits v)) (budget : ℕ) where
   spent-here : SpentFrom c v
   spent-here = made-from c out
 
-  pub spent-before-plan : (pl : Plan) → (answered (budgeted c budget)).answer ≡ Planned pl → v < pl.visits
+  pub spent-before-plan : (pl : Plan) → (answered (budgeted c budget)).answer ≡ Ok pl → v < pl.visits
   unfolding searched
   spent-before-plan pl e =
       let from : PlanFrom (budgeted c budget) pl = made-from (budgeted c budget) e in
@@ -326,7 +326,7 @@ module _ (c : Call) (v : ℕ) (out : (answered c).answer ≡ Refused (OutOfVisit
       let is : pl.visits ≡ budget - from.left = ap (λ (x : Plan). x.visits) from.is in
       omega (arith, spent-here.is)
 
-  pub spent-before-none : (w : ℕ) → (answered (budgeted c budget)).answer ≡ Refused (NoPlan w) → v < w
+  pub spent-before-none : (w : ℕ) → (answered (budgeted c budget)).answer ≡ Err (NoPlan w) → v < w
   unfolding searched
   spent-before-none w e =
       let from : NoPlanFrom (budgeted c budget) w = made-from (budgeted c budget) e in
@@ -335,7 +335,7 @@ module _ (c : Call) (v : ℕ) (out : (answered c).answer ≡ Refused (OutOfVisit
 
 -- ---- 9
 
-pub odd-board_means : (c : Call) → (answered c).answer ≡ Refused OddBoard → (ds : List ℕ) → Solves (shape_of c) c.board ds → ⊥
+pub odd-board_means : (c : Call) → (answered c).answer ≡ Err OddBoard → (ds : List ℕ) → Solves (shape_of c) c.board ds → ⊥
 unfolding last_tests
 odd-board_means c e ds v =
     let from : TestRefused c OddBoard = made-from c e in

@@ -16,7 +16,7 @@ use Rattle.search.specs.Search.{Outcome, found, value, spent}
 use Rattle.search.specs.Run.{rows_for}
 use Rattle.planner.specs.declared.Refusal.{Refusal}
 use Rattle.planner.specs.declared.Refusal.TheVariants.{Board, Beyond, ShortBuffer, OddBoard, NoPlan, OutOfVisits}
-use Rattle.planner.specs.declared.Answer.TheVariants.{Refused}
+use Rattle.std.specs.Prelude.{Err}
 use Rattle.planner.specs.Limits.{bad_ceiling, ceiling_of, limit_tests}
 use Rattle.planner.specs.Answer.{Call, Left, short_buffer, last_tests, tests, searched, cleared, concluded, after_tests, answered}
 use Rattle.planner.specs.Answer.{called, plan_length, refusal_number, TestNumber, search_ran}
@@ -86,7 +86,7 @@ pub data TableLeft (c : Call) : Type 0 where
       → TableLeft c
 
 -- a refusal that a test gives is not the search's
-not-searched : (r : Refusal) → TestNumber (refusal_number r) → search_ran (Refused r) ≡ false
+not-searched : (r : Refusal) → TestNumber (refusal_number r) → search_ran (Err r) ≡ false
 not-searched (Board f) h = refl
 not-searched (Beyond l) h = refl
 not-searched ShortBuffer h = refl

@@ -14,7 +14,7 @@ use Rattle.planner.specs.declared.Limit.{Limit}
 use Rattle.planner.specs.declared.Limit.TheVariants.{NotLowest}
 use Rattle.planner.specs.declared.Refusal.{Refusal}
 use Rattle.planner.specs.declared.Refusal.TheVariants.{Board, Beyond}
-use Rattle.planner.specs.declared.Answer.TheVariants.{Refused}
+use Rattle.std.specs.Prelude.{Err}
 use Rattle.planner.specs.Limits.{bad_ceiling, bad_budget, bad_weight, CommonDivisor, limit_tests, limit_number}
 use Rattle.planner.specs.Answer.{Call, Left, tests, answered, refusal_number}
 use Rattle.planner.proofs.theory.Divisors.{Lowest, shares_exactly, one-weight}
@@ -30,7 +30,7 @@ pub record PastSeven (c : Call) : Type 0 where
   pub weight : bad_weight c.p c.q ≡ false
   pub shared : CommonDivisor c.p c.q
 
-pub not-lowest-is : (c : Call) → ((answered c).answer ≡ Refused (Beyond NotLowest)) ↔ PastSeven c
+pub not-lowest-is : (c : Call) → ((answered c).answer ≡ Err (Beyond NotLowest)) ↔ PastSeven c
 unfolding limit_tests tests
 not-lowest-is c = (given, gives)
   where
@@ -48,12 +48,12 @@ not-lowest-is c = (given, gives)
     go (by_limit sound first) is = limits sound first is
     go (by_last sound kept first) is = absurd (omega (arith, last-number c first))
 
-    given : (answered c).answer ≡ Refused (Beyond NotLowest) → PastSeven c
+    given : (answered c).answer ≡ Err (Beyond NotLowest) → PastSeven c
     given e =
         let from : TestRefused c (Beyond NotLowest) = made-from c e in
         go (refusing c from.first) refl
 
-    gives : PastSeven c → (answered c).answer ≡ Refused (Beyond NotLowest)
+    gives : PastSeven c → (answered c).answer ≡ Err (Beyond NotLowest)
     gives it =
         let fifteen = (shares_exactly c.p c.q).1 it.shared in
         let first : FirstToHold (limit_tests c.ceiling c.budget c.p c.q) NotLowest =

@@ -12,7 +12,7 @@ use Rattle.board.proofs.Laws.{neither, first_means, none_means}
 use Rattle.search.specs.Run.{rows_for}
 use Rattle.planner.specs.declared.Limit.{Limit}
 use Rattle.planner.specs.declared.Terms.{Terms}
-use Rattle.planner.specs.declared.Measured.TheVariants.{Within, Outside}
+use Rattle.std.specs.Prelude.{Ok, Err}
 use Rattle.planner.specs.Limits.{bad_ceiling, ceiling_of, bad_budget, bad_weight, shares_divisor, limit_tests, said_of, measured}
 use Rattle.planner.specs.Answer.{short_buffer}
 
@@ -68,12 +68,12 @@ unfolding limit_tests
 limits-kept ceiling budget p q (past five (past six (past seven (past fifteen end)))) =
     record { ceiling_ok = five; budget_ok = six; weight_ok = seven; lowest_ok = fifteen }
 
-said_outside : (l : Terms) (o : Option Limit) (limit : Limit) → said_of l o ≡ Outside limit → o ≡ some limit
+said_outside : (l : Terms) (o : Option Limit) (limit : Limit) → said_of l o ≡ Err limit → o ≡ some limit
 unfolding said_of
 said_outside l none limit e = let z : ◌≡◌ {A = ℕ} 0 1 = cc in absurd (omega arith)
 said_outside l (some other) limit e = cc
 
-said-within : (l : Terms) (o : Option Limit) (l' : Terms) → said_of l o ≡ Within l' → (o ≡ none) × (l' ≡ l)
+said-within : (l : Terms) (o : Option Limit) (l' : Terms) → said_of l o ≡ Ok l' → (o ≡ none) × (l' ≡ l)
 unfolding said_of
 said-within l none l' e = (refl, cc)
 said-within l (some other) l' e = let z : ◌≡◌ {A = ℕ} 0 1 = cc in absurd (omega arith)
@@ -83,12 +83,12 @@ module _ (ceiling : ℤ) (budget p q : ℕ) where
   abbrev pub named : Terms
   named = record { ceiling = ceiling_of ceiling; weight = record { p = p; q = q } }
 
-  pub outside_means : (limit : Limit) → measured ceiling budget p q ≡ Outside limit → FirstToHold (limit_tests ceiling budget p q) limit
+  pub outside_means : (limit : Limit) → measured ceiling budget p q ≡ Err limit → FirstToHold (limit_tests ceiling budget p q) limit
   unfolding measured
   outside_means limit e =
       first_means (limit_tests ceiling budget p q) limit (said_outside named (first_refusal (limit_tests ceiling budget p q)) limit e)
 
-  pub within_means : (l : Terms) → measured ceiling budget p q ≡ Within l → NoneHolds (limit_tests ceiling budget p q) × (l ≡ named)
+  pub within_means : (l : Terms) → measured ceiling budget p q ≡ Ok l → NoneHolds (limit_tests ceiling budget p q) × (l ≡ named)
   unfolding measured
   within_means l e =
       let both = said-within named (first_refusal (limit_tests ceiling budget p q)) l e in

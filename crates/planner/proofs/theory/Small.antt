@@ -7,8 +7,8 @@ use Rattle.board.specs.declared.Fault.{Fault}
 use Rattle.board.specs.Faults.{fault_cell}
 use Rattle.planner.specs.declared.Plan.{Plan}
 use Rattle.planner.specs.declared.Refusal.TheVariants.{Board, Beyond, ShortBuffer, OddBoard, NoPlan, OutOfVisits}
-use Rattle.planner.specs.declared.Answer.{Answer}
-use Rattle.planner.specs.declared.Answer.TheVariants.{Planned, Refused}
+use Rattle.planner.specs.Answer.{Answer}
+use Rattle.std.specs.Prelude.{Ok, Err}
 use Rattle.planner.specs.Answer.{Call, answered, number, cell, plan_length, visits}
 use Rattle.planner.proofs.theory.Passing.{ceiling-passes, budget-passes}
 use Rattle.planner.proofs.theory.Ways.{Clear, clear, Refusing, by_board, by_last, refusing, fault-number, limit-number}
@@ -30,23 +30,23 @@ module _ (c : Call) where
       fault-cell-inside c.width c.height c.board f (faulty-given c.width c.height c.board f first)
   cell-inside f (by_last sound kept first) = absurd (omega (arith, fault-number f, last-number c first))
 
-  planned-small : (pl : Plan) → PlanFrom c pl → PlanMade c pl → Small (Planned pl)
+  planned-small : (pl : Plan) → PlanFrom c pl → PlanMade c pl → Small (Ok pl)
   planned-small pl from made =
       let clean = clear c from.passed in
       omega (arith, made.within, ceiling-passes c.ceiling clean.limits.ceiling_ok, made.counted, budget-most clean)
 
   pub answer-small : (a : Answer) → (answered c).answer ≡ a → Small a
-  answer-small (Planned pl) e = planned-small pl (made-from c e) (plan-made c pl e)
-  answer-small (Refused (Board f)) e =
+  answer-small (Ok pl) e = planned-small pl (made-from c e) (plan-made c pl e)
+  answer-small (Err (Board f)) e =
       let from : TestRefused c (Board f) = made-from c e in
       omega (arith, fault-number f, cell-inside f (refusing c from.first))
-  answer-small (Refused (Beyond l)) e = omega (arith, limit-number l)
-  answer-small (Refused ShortBuffer) e = omega arith
-  answer-small (Refused OddBoard) e = omega arith
-  answer-small (Refused (NoPlan v)) e =
+  answer-small (Err (Beyond l)) e = omega (arith, limit-number l)
+  answer-small (Err ShortBuffer) e = omega arith
+  answer-small (Err OddBoard) e = omega arith
+  answer-small (Err (NoPlan v)) e =
       let from : NoPlanFrom c v = made-from c e in
       omega (arith, from.is, budget-most (clear c from.passed))
-  answer-small (Refused (OutOfVisits v)) e =
+  answer-small (Err (OutOfVisits v)) e =
       let from : SpentFrom c v = made-from c e in
       omega (arith, from.is, budget-most (clear c from.passed))
 

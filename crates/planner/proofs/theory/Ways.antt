@@ -23,8 +23,8 @@ use Rattle.planner.specs.declared.Limit.{Limit}
 use Rattle.planner.specs.declared.Limit.TheVariants.{BadCeiling, BadBudget, BadWeight, NotLowest}
 use Rattle.planner.specs.declared.Refusal.{Refusal}
 use Rattle.planner.specs.declared.Refusal.TheVariants.{Board, Beyond, ShortBuffer, OddBoard, NoPlan, OutOfVisits}
-use Rattle.planner.specs.declared.Answer.{Answer}
-use Rattle.planner.specs.declared.Answer.TheVariants.{Planned, Refused}
+use Rattle.planner.specs.Answer.{Answer}
+use Rattle.std.specs.Prelude.{Ok, Err}
 use Rattle.planner.specs.Limits.{ceiling_of, limit_tests, limit_number}
 use Rattle.planner.specs.Answer.{Call, Left, shape_of, short_buffer, last_tests, tests, searched, untouched, concluded, after_tests}
 use Rattle.planner.specs.Answer.{answered, refusal_number, TestNumber, SearchNumber}
@@ -180,15 +180,15 @@ pub record SpentFrom (c : Call) (v : ℕ) : Type 0 where
 
 -- which of these an answer was made from
 abbrev pub From : Call → Answer → Type 0
-From c (Planned pl) = PlanFrom c pl
-From c (Refused (Board f)) = TestRefused c (Board f)
-From c (Refused (Beyond l)) = TestRefused c (Beyond l)
-From c (Refused ShortBuffer) = TestRefused c ShortBuffer
-From c (Refused OddBoard) = TestRefused c OddBoard
-From c (Refused (NoPlan v)) = NoPlanFrom c v
-From c (Refused (OutOfVisits v)) = SpentFrom c v
+From c (Ok pl) = PlanFrom c pl
+From c (Err (Board f)) = TestRefused c (Board f)
+From c (Err (Beyond l)) = TestRefused c (Beyond l)
+From c (Err ShortBuffer) = TestRefused c ShortBuffer
+From c (Err OddBoard) = TestRefused c OddBoard
+From c (Err (NoPlan v)) = NoPlanFrom c v
+From c (Err (OutOfVisits v)) = SpentFrom c v
 
-test-from : (c : Call) (r : Refusal) → TestNumber (refusal_number r) → TestRefused c r → From c (Refused r)
+test-from : (c : Call) (r : Refusal) → TestNumber (refusal_number r) → TestRefused c r → From c (Err r)
 test-from c (Board f) early it = it
 test-from c (Beyond l) early it = it
 test-from c ShortBuffer early it = it

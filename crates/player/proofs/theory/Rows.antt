@@ -11,8 +11,8 @@ use Rattle.board.specs.Moves.{stays_on, leads_to, legal, slide, after}
 use Rattle.board.specs.Tests.{first_refusal}
 use Rattle.board.specs.Faults.{tested, said_of, fault_tests, first_too_large, first_holding, repeats, first_repeat}
 use Rattle.player.specs.declared.PlayRefusal.TheVariants.{Board, ShortOutput, NoMove, OffGrid}
-use Rattle.player.specs.declared.Played.{Played}
-use Rattle.player.specs.declared.Played.TheVariants.{End, Refused}
+use Rattle.player.specs.Play.{Played}
+use Rattle.std.specs.Prelude.{Ok, Err}
 use Rattle.player.specs.Play.{answer_for, answer_after, answer_on, comes_to, first_bad, bad_move}
 
 -- a call, and the answer that it must get
@@ -41,19 +41,19 @@ down = 3
 
 abbrev pub rows : List Row
 rows =
-    row 2 2 (0 ∷ 1 ∷ 2 ∷ 3 ∷ []) [] 4 (End true)
-    ∷ row 2 2 (1 ∷ 0 ∷ 2 ∷ 3 ∷ []) (left ∷ []) 4 (End true)
-    ∷ row 2 2 (3 ∷ 2 ∷ 1 ∷ 0 ∷ []) (up ∷ left ∷ down ∷ right ∷ up ∷ left ∷ []) 4 (End true)
-    ∷ row 2 2 (3 ∷ 2 ∷ 1 ∷ 0 ∷ []) (left ∷ up ∷ right ∷ down ∷ left ∷ up ∷ []) 4 (End true)
-    ∷ row 2 2 (0 ∷ 3 ∷ 1 ∷ 2 ∷ []) (down ∷ right ∷ up ∷ left ∷ []) 4 (End true)
-    ∷ row 2 2 (0 ∷ 3 ∷ 1 ∷ 2 ∷ []) (down ∷ right ∷ up ∷ []) 4 (End false)
-    ∷ row 5 2 (0 ∷ []) (4 ∷ []) 0 (Refused (Board BadShape))
-    ∷ row 3 2 (0 ∷ 1 ∷ 2 ∷ 3 ∷ 4 ∷ []) (4 ∷ []) 0 (Refused (Board BadLength))
-    ∷ row 2 2 (0 ∷ 1 ∷ 1 ∷ 4 ∷ []) (4 ∷ []) 0 (Refused (Board (TooLarge 3)))
-    ∷ row 2 2 (0 ∷ 1 ∷ 1 ∷ 3 ∷ []) (4 ∷ []) 0 (Refused (Board (Repeated 2)))
-    ∷ row 2 2 (0 ∷ 1 ∷ 2 ∷ 3 ∷ []) (up ∷ []) 3 (Refused ShortOutput)
-    ∷ row 2 2 (0 ∷ 1 ∷ 2 ∷ 3 ∷ []) (right ∷ down ∷ 4 ∷ left ∷ []) 4 (Refused (NoMove 2))
-    ∷ row 2 2 (0 ∷ 1 ∷ 2 ∷ 3 ∷ []) (right ∷ right ∷ 4 ∷ []) 4 (Refused (OffGrid 1))
+    row 2 2 (0 ∷ 1 ∷ 2 ∷ 3 ∷ []) [] 4 (Ok true)
+    ∷ row 2 2 (1 ∷ 0 ∷ 2 ∷ 3 ∷ []) (left ∷ []) 4 (Ok true)
+    ∷ row 2 2 (3 ∷ 2 ∷ 1 ∷ 0 ∷ []) (up ∷ left ∷ down ∷ right ∷ up ∷ left ∷ []) 4 (Ok true)
+    ∷ row 2 2 (3 ∷ 2 ∷ 1 ∷ 0 ∷ []) (left ∷ up ∷ right ∷ down ∷ left ∷ up ∷ []) 4 (Ok true)
+    ∷ row 2 2 (0 ∷ 3 ∷ 1 ∷ 2 ∷ []) (down ∷ right ∷ up ∷ left ∷ []) 4 (Ok true)
+    ∷ row 2 2 (0 ∷ 3 ∷ 1 ∷ 2 ∷ []) (down ∷ right ∷ up ∷ []) 4 (Ok false)
+    ∷ row 5 2 (0 ∷ []) (4 ∷ []) 0 (Err (Board BadShape))
+    ∷ row 3 2 (0 ∷ 1 ∷ 2 ∷ 3 ∷ 4 ∷ []) (4 ∷ []) 0 (Err (Board BadLength))
+    ∷ row 2 2 (0 ∷ 1 ∷ 1 ∷ 4 ∷ []) (4 ∷ []) 0 (Err (Board (TooLarge 3)))
+    ∷ row 2 2 (0 ∷ 1 ∷ 1 ∷ 3 ∷ []) (4 ∷ []) 0 (Err (Board (Repeated 2)))
+    ∷ row 2 2 (0 ∷ 1 ∷ 2 ∷ 3 ∷ []) (up ∷ []) 3 (Err ShortOutput)
+    ∷ row 2 2 (0 ∷ 1 ∷ 2 ∷ 3 ∷ []) (right ∷ down ∷ 4 ∷ left ∷ []) 4 (Err (NoMove 2))
+    ∷ row 2 2 (0 ∷ 1 ∷ 2 ∷ 3 ∷ []) (right ∷ right ∷ 4 ∷ []) 4 (Err (OffGrid 1))
     ∷ []
 
 pub worked : map (λ r. answer_for r.width r.height r.board r.moves r.room) rows ≡ map (λ r. r.expected) rows

@@ -2,12 +2,12 @@
 -- Assumes nothing.
 use Prim.Native.Nat.{ℕ, suc, ◌+◌, ◌≤◌, ◌<◌}
 use native.Mathlib.Omega.{arith}
-use native.Mathlib.Nat.{add-zero, add-suc, suc-add, zero-add}
 use native.Mathlib.Numerals.{add-one}
+use native.Mathlib.Nat.{add-zero, add-suc, suc-add, zero-add}
 use mathlib.Core.Path.{◌≡◌, refl, sym, ap, ◌∙◌}
 use mathlib.Core.List.{List, [], ◌∷◌, ◌++◌}
-use lib.ListN.{length, get_or, take, drop, set, length-append}
-use lib.Seq.{sets, sets-eq, length-sets, take-suc, take_all, set_comm}
+use lib.ListN.{length, take, drop, set, get_or, length-append}
+use lib.Seq.{sets, sets-eq, length-sets, take-suc, set_comm}
 use Rattle.records.specs.Put.{Put}
 
 sets_append : (l : List ℕ) (i : ℕ) (vs ws : List ℕ) → sets l i (vs ++ ws) ≡ sets (sets l i vs) (i + length vs) ws
@@ -31,14 +31,6 @@ put_front {bytes} {old} put h = put.stored ∙ sets-eq bytes old 0 (rw zero-add 
 pub put-none : (old : List ℕ) (at next : ℕ) → next ≡ at + 0 → Put [] old at old next
 put-none old at next e = record { stored = refl; end = e }
 
-pub put_four : (old : List ℕ) (at a b c d : ℕ)
-    → Put (a ∷ b ∷ c ∷ d ∷ []) old at (set (set (set (set old at a) (at + 1) b) (at + 2) c) (at + 3) d) (at + 4)
-put_four old at a b c d =
-    let one : at + 1 ≡ suc at = omega arith in
-    let two : at + 2 ≡ suc (suc at) = omega arith in
-    let three : at + 3 ≡ suc (suc (suc at)) = omega arith in
-    record { stored = rw (one, two, three); end = refl }
-
 pub put_then : {s t old mid new : List ℕ} {at k next : ℕ} → Put s old at mid k → Put t mid k new next → Put (s ++ t) old at new next
 put_then {s} {t} {old} {mid} {new} {at} {k} {next} a b =
     record {
@@ -49,20 +41,9 @@ put_then {s} {t} {old} {mid} {new} {at} {k} {next} a b =
 pub put-length : {s old new : List ℕ} {at next : ℕ} → Put s old at new next → length new ≡ length old
 put-length {s} {old} {new} {at} a = ap length a.stored ∙ length-sets old at s
 
--- where two have room together, the first has, and the second behind it
-pub room-first : (s t old : List ℕ) (at : ℕ) → at + length (s ++ t) ≤ length old → at + length s ≤ length old
-room-first s t old at room = omega (arith, length-append s t)
-
-pub room-behind : (s t old mid : List ℕ) (at next : ℕ) → Put s old at mid next → at + length (s ++ t) ≤ length old
-    → next + length t ≤ length mid
-room-behind s t old mid at next put room = omega (arith, length-append s t, put.end, put-length put)
-
 -- the loop that puts bytes one by one: the first i of them are put
 pub put_next : (bytes old new : List ℕ) (at i : ℕ) → i < length bytes → Put (take i bytes) old at new (at + i)
     → Put (take (i + 1) bytes) old at (set new (at + i) (get_or bytes i 0)) (at + (i + 1))
 put_next bytes old new at i h put =
     rw (add-one, take-suc bytes i 0 h)
     (put_then put (record { stored = refl; end = omega arith }))
-
-pub put_all : (bytes old new : List ℕ) (at i next : ℕ) → length bytes ≤ i → Put (take i bytes) old at new next → Put bytes old at new next
-put_all bytes old new at i next h put = rw (take_all i bytes h) at put

@@ -11,6 +11,7 @@ use lib.IntN.{pos}
 use lib.ListN.{length, get_or, length-map, get_or-map}
 use lib.Seq.{ext_get_or}
 use borrow.Author.Tests.{lt-ltb, le-ltb, le-leb, ltb-true, ltb-false, eq-eqb}
+use Rattle.std.specs.Prelude.{Result, Ok, Err}
 use Rattle.board.specs.declared.Fault.TheVariants.{TooLarge}
 use Rattle.board.specs.Tests.{Test, test, first_refusal, FirstToHold, here, later, NoneHolds, end, past, under}
 use Rattle.board.specs.Faults.{fault_tests, first_too_large}
@@ -24,8 +25,6 @@ use Rattle.planner.proofs.code.Testing.{outside_5}
 use Rattle.records.specs.declared.Numbers.{Numbers}
 use Rattle.records.specs.declared.PlanRefusal.{PlanRefusal}
 use Rattle.records.specs.declared.PlanRefusal.TheVariants.{Board, Beyond, ShortOutput}
-use Rattle.records.specs.declared.Written.{Written}
-use Rattle.records.specs.declared.Written.TheVariants.{Record, Refused}
 use Rattle.records.specs.declared.ReadRefusal.TheVariants.{Plan}
 use Rattle.records.specs.Record.{record_of}
 use Rattle.records.specs.Write.{Given, given, fields_of, list_tests, plan_tests, too_short, write_tests, written}
@@ -54,9 +53,9 @@ module _ {R R' : Type 0} (f : R → R') where
   under_none ts passed = subst (λ l. first_refusal l ≡ none) (append-nil (under f ts)) (behind-refusal f [] passed)
 
 -- why the writer refuses
-abbrev pub why_of : Written → Option PlanRefusal
-why_of (Record k) = none
-why_of (Refused why) = some why
+abbrev pub why_of : Result ℕ PlanRefusal → Option PlanRefusal
+why_of (Ok k) = none
+why_of (Err why) = some why
 
 -- ---- test 8 is the last
 
@@ -129,21 +128,6 @@ module _ (g : Given) where
 
 -- ---- a ceiling above 120 may be asked as 121
 
-lowered-small : (c : ℕ) → c ≤ 120 → lowered c ≡ c
-unfolding lowered
-lowered-small c h = rw (le-ltb 120 c h)
-
-lowered_large : (c : ℕ) → 120 < c → lowered c ≡ 121
-unfolding lowered
-lowered_large c h = rw (lt-ltb 120 c h)
-
-pub lowered-most : (c : ℕ) → lowered c ≤ 121
-lowered-most c = go (ltb 120 c) refl
-  where
-    go : (t : Bool) → ltb 120 c ≡ t → lowered c ≤ 121
-    go true h = omega (arith, lowered_large c (ltb-true 120 c h))
-    go false h = omega (arith, lowered-small c (ltb-false 120 c h), ltb-false 120 c h)
-
 -- the plan with its ceiling lowered
 abbrev pub lowered_of : Numbers → List ℕ → List ℕ → Given
 lowered_of n cells moves = given n.width n.height cells (pos (lowered n.ceiling)) n.p n.q n.visits moves
@@ -173,34 +157,32 @@ lowered-same n cells moves s = go (ltb 120 n.ceiling) refl
     go : (t : Bool) → ltb 120 n.ceiling ≡ t → first_refusal (plan_tests low s) ≡ first_refusal (plan_tests high s)
     go true h =
         let above = ltb-true 120 n.ceiling h in
-        let down : 120 < lowered n.ceiling = omega (arith, lowered_large n.ceiling above) in
+        let down : 120 < lowered n.ceiling = omega arith in
         same-behind Board (fault_tests n.width n.height cells) _ _
         (λ sound. refused_five low s (large_five (lowered n.ceiling) down) ∙ sym (refused_five high s (large_five n.ceiling above)))
     go false h =
-        ap (λ c. first_refusal (plan_tests (given n.width n.height cells (pos c) n.p n.q n.visits moves) s))
-        (lowered-small n.ceiling (ltb-false 120 n.ceiling h))
+        let few = ltb-false 120 n.ceiling h in
+        let same : lowered n.ceiling ≡ n.ceiling = omega arith in
+        ap (λ c. first_refusal (plan_tests (given n.width n.height cells (pos c) n.p n.q n.visits moves) s)) same
 
 -- ---- a cell that no byte holds may be asked as 255
 
-clamped-small : (v : ℕ) → v < 255 → clamped v ≡ v
-unfolding clamped
-clamped-small v h = rw (lt-ltb v 255 h)
-
-clamped_large : (v : ℕ) → 255 ≤ v → clamped v ≡ 255
-unfolding clamped
-clamped_large v h = rw (le-ltb v 255 h)
-
-at-clamped : (b : List ℕ) (i : ℕ) → get_or (map clamped b) i 0 ≡ clamped (get_or b i 0)
-at-clamped b i = ap (get_or (map clamped b) i) (sym (clamped-small 0 (omega arith))) ∙ get_or-map clamped b i 0
+pub at-clamped : (b : List ℕ) (i : ℕ) → get_or (map clamped b) i 0 ≡ clamped (get_or b i 0)
+at-clamped b i =
+    let none : 0 ≡ clamped 0 = omega arith in
+    ap (get_or (map clamped b) i) none ∙ get_or-map clamped b i 0
 
 as_large : (n v : ℕ) → n ≤ 16 → leb n v ≡ leb n (clamped v)
 as_large n v few = go (ltb v 255) refl
   where
     go : (t : Bool) → ltb v 255 ≡ t → leb n v ≡ leb n (clamped v)
-    go true h = ap (leb n) (sym (clamped-small v (ltb-true v 255 h)))
+    go true h =
+        let small = ltb-true v 255 h in
+        let same : v ≡ clamped v = omega arith in
+        ap (leb n) same
     go false h =
         let large = ltb-false v 255 h in
-        le-leb n v (omega arith) ∙ sym (ap (leb n) (clamped_large v large) ∙ le-leb n 255 (omega arith))
+        le-leb n v (omega arith) ∙ sym (le-leb n (clamped v) (omega arith))
 
 large_same : (n : ℕ) (b : List ℕ) → n ≤ 16 → first_too_large n b ≡ first_too_large n (map clamped b)
 unfolding first_too_large
@@ -259,7 +241,8 @@ clamped-same n cells moves found read = go (ltb (first_too_large size cells) siz
         ext_get_or 0 cells (map clamped cells) (sym (length-map cells clamped))
         (λ i inside.
         let below = small i (omega (arith, read.long)) in
-        sym (at-clamped cells i ∙ clamped-small (get_or cells i 0) (omega (arith, below, few)))) in
+        let one : clamped (get_or cells i 0) ≡ get_or cells i 0 = omega (arith, below, few) in
+        sym (at-clamped cells i ∙ one)) in
         ap (λ b. plan_read n b moves found) same
 
 -- ---- what the reader answers

@@ -9,6 +9,7 @@ use mathlib.Core.Option.{Option, none, some}
 use lib.ListN.{length, get_or, take, drop, length-append, length-drop, take-append-drop}
 use lib.Seq.{take_at, take-append_seam, length-take-le, take-add}
 use borrow.Author.Tests.{le-ltb, ltb-false, not-false}
+use Rattle.std.specs.Prelude.{Ok, Err}
 use Rattle.board.specs.Tests.{Test, first_refusal, NoneHolds, end, past, under}
 use Rattle.board.specs.Faults.{fault_tests}
 use Rattle.board.proofs.Laws.{none_means, none-split, cells-within, side_within}
@@ -17,13 +18,12 @@ use Rattle.records.specs.declared.Numbers.{Numbers}
 use Rattle.records.specs.declared.PlanRefusal.TheVariants.{Board, Beyond}
 use Rattle.records.specs.declared.ReadRefusal.{ReadRefusal}
 use Rattle.records.specs.declared.ReadRefusal.TheVariants.{Plan}
-use Rattle.records.specs.declared.ReadAnswer.TheVariants.{Fields as FieldsRead}
 use Rattle.records.specs.Groups.{spelled}
 use Rattle.records.specs.Mark.{mark, mark_bytes}
 use Rattle.records.specs.Record.{body, sealed, record_of}
 use Rattle.records.specs.Write.{Given, fields_of, plan_tests, list_tests}
 use Rattle.records.specs.Form.{Bytes}
-use Rattle.records.specs.Read.{Begun, begun, halted, numbers_in, mark_stands, end_tests, given_of, no_room, reading_tests, moves_at}
+use Rattle.records.specs.Read.{Begun, begun, numbers_in, mark_stands, end_tests, given_of, no_room, reading_tests, moves_at}
 use Rattle.records.specs.Read.{leaves_read, begun_read, read_back, CellsRead}
 use Rattle.records.proofs.theory.Marks.{sealed-length}
 use Rattle.records.proofs.theory.Lengths.{Limited}
@@ -122,7 +122,7 @@ module _ (n : Numbers) (cells moves found : List ℕ) (passed : NoneHolds (plan_
       (none_means _ (ap (λ (s : Bool). first_refusal (plan_tests g s)) enough ∙ only_room g false passed))
 
   pub read_accepts : read_back written found
-      ≡ record { answer = FieldsRead n; out = (cells ++ moves) ++ drop (length cells + length moves) found }
+      ≡ record { answer = Ok n; out = (cells ++ moves) ++ drop (length cells + length moves) found }
   unfolding read_back leaves_read
   read_accepts =
       ap (begun_read written found) (numbers-found written n cells rest whole read few fits)
@@ -180,8 +180,8 @@ module _ (bytes found : List ℕ) (each : Bytes bytes) where
   unfolding read_back leaves_read sealed
   taken n cells at is none-met =
       let moves = moves_at bytes at n.length in
-      let opened = numbers_opened bytes each n cells at is in
-      let place = opened_place opened in
+      let opened = numbers_opened bytes n cells at is in
+      let place = opened_place each opened in
       let both = none-append (end_tests bytes (at + n.length)) _ (none_means _ none-met) in
       let ends = ends_of bytes (at + n.length) both.0 in
       let planned = none-under Plan (reading_tests n cells moves found) both.1 in
@@ -189,7 +189,7 @@ module _ (bytes found : List ℕ) (each : Bytes bytes) where
       let long : length moves ≡ n.length =
       length-take-le n.length (drop at bytes) (omega (arith, length-drop at bytes, ends.size)) in
       let front : take at bytes ≡ spelled (listed n cells) =
-      ap (take at) opened.stand.begins ∙ take_at (spelled (listed n cells)) (drop at bytes) at (sym place) in
+      ap (take at) (opened.stand each).begins ∙ take_at (spelled (listed n cells)) (drop at bytes) at (sym place) in
       let start : take (at + n.length) bytes ≡ body (fields_of (given_of n cells moves)) =
       take-add at n.length bytes ∙ ap (λ (l : List ℕ). l ++ moves) front ∙ sym (the_body n cells moves long) in
       record {
@@ -197,7 +197,7 @@ module _ (bytes found : List ℕ) (each : Bytes bytes) where
         moves = moves;
         passed = subst (λ (s : Bool). NoneHolds (plan_tests (given_of n cells moves) s)) enough planned;
         long = long;
-        count = opened.read.long;
+        count = opened.read.board.long;
         whole =
             sym (take-append-drop (at + n.length) bytes)
             ∙ ap (λ (l : List ℕ). take (at + n.length) bytes ++ l)
@@ -210,18 +210,18 @@ module _ (bytes found : List ℕ) (each : Bytes bytes) where
             ∙ refl;
       }
 
-  pub accepted : (n : Numbers) → (read_back bytes found).answer ≡ FieldsRead n → Accepted bytes found n
+  pub accepted : (n : Numbers) → (read_back bytes found).answer ≡ Ok n → Accepted bytes found n
   unfolding read_back leaves_read
   accepted n e = go (numbers_in bytes) refl e
     where
       tested : (m : Numbers) (cells : List ℕ) (at : ℕ) → numbers_in bytes ≡ begun m cells at → (o : Option ReadRefusal)
           → first_refusal (end_tests bytes (at + m.length) ++ under Plan (reading_tests m cells (moves_at bytes at m.length) found)) ≡ o
-          → (leaves_read m cells (moves_at bytes at m.length) found o).answer ≡ FieldsRead n → Accepted bytes found n
-      tested m cells at is (some why) met f = let z : ◌≡◌ {A = ℕ} 0 1 = cc in absurd (omega arith)
+          → (leaves_read m cells (moves_at bytes at m.length) found o).answer ≡ Ok n → Accepted bytes found n
+      tested m cells at is (some why) met f = cc
       tested m cells at is none met f =
           let same : m ≡ n = cc in
           subst (Accepted bytes found) same (taken m cells at is met)
 
-      go : (b : Begun) → numbers_in bytes ≡ b → (begun_read bytes found b).answer ≡ FieldsRead n → Accepted bytes found n
-      go (halted why) is f = let z : ◌≡◌ {A = ℕ} 0 1 = cc in absurd (omega arith)
-      go (begun m cells at) is f = tested m cells at is _ refl f
+      go : (b : Begun) → numbers_in bytes ≡ b → (begun_read bytes found b).answer ≡ Ok n → Accepted bytes found n
+      go (Err why) is f = cc
+      go (Ok (m, cells, at)) is f = tested m cells at is _ refl f

@@ -158,6 +158,23 @@ leading-few = by_groups (λ n s. (k : ℕ) → n < 128 ^ k → length s ≤ k) (
 pub groups-few : (k n : ℕ) → n < 128 ^ suc k → length (groups n) ≤ suc k
 groups-few k n h = rw (groups-longer n) (omega (arith, leading-few (n / 128) k (omega (arith, pow-suc 128 k))))
 
+pow-some : (k : ℕ) → 1 ≤ 128 ^ k
+pow-some zero = omega arith
+pow-some (suc k) = omega (arith, pow-some k, pow-suc 128 k)
+
+leading-many : (n k : ℕ) → 128 ^ k ≤ n → suc k ≤ length (leading n)
+leading-many =
+    by_groups (λ n s. (k : ℕ) → 128 ^ k ≤ n → suc k ≤ length s) (λ k h. absurd (omega (arith, pow-some k))) longer
+  where
+    longer : (n : ℕ) → 0 < n → ((k : ℕ) → 128 ^ k ≤ n / 128 → suc k ≤ length (leading (n / 128)))
+        → (k : ℕ) → 128 ^ k ≤ n → suc k ≤ length (leading (n / 128) ++ (128 + n % 128) ∷ [])
+    longer n h ih zero g = rw length-append (omega arith)
+    longer n h ih (suc k) g = rw length-append (omega (arith, ih k (omega (arith, pow-suc 128 k))))
+
+pub groups-many : (k n : ℕ) → 128 ^ k ≤ n → suc k ≤ length (groups n)
+groups-many zero n h = rw (groups-longer n) (omega arith)
+groups-many (suc k) n h = rw (groups-longer n) (omega (arith, leading-many (n / 128) k (omega (arith, pow-suc 128 k))))
+
 -- five groups serve 32 bits
 pub groups_five : (n : ℕ) → n < 4294967296 → length (groups n) ≤ 5
 groups_five n h = groups-few 4 n (omega arith)

@@ -1,12 +1,16 @@
 -- How long a record is: of its numbers only the visits can need more than one group, and they need at most three. Assumes nothing.
 use Prim.Native.Nat.{ℕ, ◌+◌, ◌≤◌}
-use mathlib.Core.Path.{◌≡◌, ap}
+use mathlib.Core.Path.{◌≡◌, sym, ap, ◌∙◌}
 use mathlib.Core.List.{List, [], ◌∷◌}
 use native.Mathlib.Omega.{arith}
 use lib.ListN.{length, length-append}
+use Rattle.std.specs.List.{sum_by}
+use Rattle.std.proofs.lemmas.List.Sums.{sum_by-cons}
 use Rattle.board.proofs.Laws.{side_within, cells-within}
 use Rattle.records.specs.Groups.{groups, spelled}
-use Rattle.records.specs.Record.{Fields, shape_numbers, plan_numbers, body, record_of}
+use Rattle.records.specs.Record.{Fields, shape_numbers, plan_numbers, body, sealed, record_of}
+use Rattle.records.specs.declared.put.Parts.{Parts}
+use Rattle.records.specs.Parts.{body_of}
 use Rattle.records.specs.Write.{Passed}
 use Rattle.records.proofs.theory.Grouping.{groups-few, spelled_none}
 use Rattle.records.proofs.theory.Marks.{sealed-length}
@@ -18,6 +22,24 @@ spelled-length n ns = length-append (groups n) (spelled ns)
 
 none-length : length (spelled []) ≡ 0
 none-length = ap length spelled_none
+
+-- how many groups numbers have, added up
+pub spelled-sum : (ns : List ℕ) → sum_by (λ n. length (groups n)) ns ≡ length (spelled ns)
+spelled-sum [] = sym none-length
+spelled-sum (n ∷ ns) =
+    sum_by-cons (λ n. length (groups n)) n ns ∙ ap (λ k. length (groups n) + k) (spelled-sum ns) ∙ sym (spelled-length n ns)
+
+-- a record's parts, as their lengths are added up
+pub body-length : (parts : Parts)
+    → length (body_of parts)
+    ≡ sum_by (λ n. length (groups n)) parts.shape + length parts.board.now + sum_by (λ n. length (groups n)) parts.plan
+    + length parts.moves.now
+body-length parts = rw (spelled-sum parts.shape, spelled-sum parts.plan) (simp length-append (omega arith))
+
+pub sealed_body : (parts : Parts)
+    → length (sealed (body_of parts))
+    ≡ length (spelled parts.shape) + length parts.board.now + length (spelled parts.plan) + length parts.moves.now + 4
+sealed_body parts = sealed-length (body_of parts) ∙ simp length-append (omega arith)
 
 -- fields within all limits
 pub record Limited (f : Fields) : Type 0 where
@@ -59,7 +81,7 @@ module _ (f : Fields) (limited : Limited f) where
         groups-few 0 moves (omega (arith, limited.moves-most)),
       )
 
-  body-most : length (body f) ≤ 145
+  pub body-most : length (body f) ≤ 145
   body-most =
       let board = limited.passed.board in
       rw (body-pieces f limited.passed)

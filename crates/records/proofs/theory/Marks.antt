@@ -1,20 +1,11 @@
 -- Laws of the mark: that a product of two numbers of 32 bits fits 64, the mark of no bytes, and of one byte more; and how long bytes are
 -- with their mark. Assumes nothing.
-use Prim.Native.Nat.{ℕ, suc, ◌+◌, ◌*◌, ◌^◌, ◌≤◌, ◌<◌}
-use native.Mathlib.Omega.{arith}
-use native.Mathlib.Nat.{mul-le-mul}
-use mathlib.Core.Path.{◌≡◌, refl, ap, ◌∙◌}
+use Prim.Native.Nat.{ℕ, ◌+◌}
+use mathlib.Core.Path.{◌≡◌, refl}
 use mathlib.Core.List.{List, [], ◌∷◌, ◌++◌}
-use lib.ListN.{length, get_or, take, length-append}
-use lib.Seq.{take-suc}
+use lib.ListN.{length, length-append}
 use Rattle.records.specs.Mark.{mark_step, mark_from, mark}
 use Rattle.records.specs.Record.{sealed}
-
-pub product_fits : (x y : ℕ) → x < 2 ^ 32 → y < 2 ^ 32 → x * y < 2 ^ 64
-product_fits x y small small' =
-    let most : x ≤ 4294967295 = omega arith in
-    let most' : y ≤ 4294967295 = omega arith in
-    omega (arith, mul-le-mul most most')
 
 mark-from_snoc : (m : ℕ) (bytes : List ℕ) (b : ℕ) → mark_from m (bytes ++ b ∷ []) ≡ mark_step (mark_from m bytes) b
 unfolding mark_from
@@ -25,9 +16,9 @@ pub mark-none : mark [] ≡ 2166136261
 unfolding mark mark_from
 mark-none = refl
 
-pub mark-next : (l : List ℕ) (i : ℕ) → i < length l → mark (take (suc i) l) ≡ mark_step (mark (take i l)) (get_or l i 0)
+pub mark-snoc : (l : List ℕ) (b : ℕ) → mark (l ++ b ∷ []) ≡ mark_step (mark l) b
 unfolding mark
-mark-next l i h = ap (mark_from 2166136261) (take-suc l i 0 h) ∙ mark-from_snoc 2166136261 (take i l) (get_or l i 0)
+mark-snoc l b = mark-from_snoc 2166136261 l b
 
 pub sealed-length : (bytes : List ℕ) → length (sealed bytes) ≡ length bytes + 4
 unfolding sealed

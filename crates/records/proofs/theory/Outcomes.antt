@@ -9,6 +9,7 @@ use native.Mathlib.Omega.{arith}
 use lib.IntN.{pos}
 use lib.ListN.{length, drop}
 use borrow.Author.Tests.{ltb-false, not-false}
+use Rattle.std.specs.Prelude.{Ok, Err}
 use Rattle.board.specs.Lists.{LegalList, Solves}
 use Rattle.board.specs.Tests.{Test, first_refusal, FirstToHold, NoneHolds, end, past}
 use Rattle.board.specs.Faults.{fault_tests}
@@ -21,7 +22,6 @@ use Rattle.player.specs.Play.{first_bad}
 use Rattle.player.proofs.Laws.{first-bad-within, no_bad-move}
 use Rattle.records.specs.declared.PlanRefusal.{PlanRefusal}
 use Rattle.records.specs.declared.PlanRefusal.TheVariants.{Board, Beyond}
-use Rattle.records.specs.declared.Written.TheVariants.{Record, Refused}
 use Rattle.records.specs.Record.{Fields, record_of}
 use Rattle.records.specs.Write.{Given, fields_of, shape_of, list_tests, plan_tests, too_short, write_tests, leaves, left_by}
 use Rattle.records.proofs.theory.Lengths.{Limited}
@@ -29,36 +29,36 @@ use Rattle.records.proofs.theory.Lengths.{Limited}
 -- ---- by the tests, whatever they are
 
 module _ (bytes found : List ℕ) where
-  refused-some : (o : Option PlanRefusal) (r : PlanRefusal) → (leaves bytes found o).answer ≡ Refused r → o ≡ some r
+  refused-some : (o : Option PlanRefusal) (r : PlanRefusal) → (leaves bytes found o).answer ≡ Err r → o ≡ some r
   unfolding leaves
-  refused-some none r e = let z : ◌≡◌ {A = ℕ} 0 1 = cc in absurd (omega arith)
+  refused-some none r e = cc
   refused-some (some why) r e = cc
 
-  record_none : (o : Option PlanRefusal) (k : ℕ) → (leaves bytes found o).answer ≡ Record k → (o ≡ none) × (k ≡ length bytes)
+  record_none : (o : Option PlanRefusal) (k : ℕ) → (leaves bytes found o).answer ≡ Ok k → (o ≡ none) × (k ≡ length bytes)
   unfolding leaves
   record_none none k e = (refl, cc)
-  record_none (some why) k e = let z : ◌≡◌ {A = ℕ} 0 1 = cc in absurd (omega arith)
+  record_none (some why) k e = cc
 
   module _ (ts : List (Test PlanRefusal)) where
-    pub refused_by : (r : PlanRefusal) → ((left_by bytes found ts).answer ≡ Refused r) ↔ FirstToHold ts r
+    pub refused_by : (r : PlanRefusal) → ((left_by bytes found ts).answer ≡ Err r) ↔ FirstToHold ts r
     unfolding leaves
     refused_by r = (
       λ e. first_means ts r (refused-some (first_refusal ts) r e),
       λ first. rw (first-given first) refl,
     )
 
-    pub recorded_by : (k : ℕ) → ((left_by bytes found ts).answer ≡ Record k) ↔ (NoneHolds ts × (k ≡ length bytes))
+    pub recorded_by : (k : ℕ) → ((left_by bytes found ts).answer ≡ Ok k) ↔ (NoneHolds ts × (k ≡ length bytes))
     unfolding leaves
     recorded_by k = (
       λ e. (none_means ts (record_none (first_refusal ts) k e).0, (record_none (first_refusal ts) k e).1),
-      λ both. rw (none-given both.0) (ap Record (sym both.1)),
+      λ both. rw (none-given both.0) (ap Ok (sym both.1)),
     )
 
-    pub refused-leaves : (r : PlanRefusal) → (left_by bytes found ts).answer ≡ Refused r → (left_by bytes found ts).out ≡ found
+    pub refused-leaves : (r : PlanRefusal) → (left_by bytes found ts).answer ≡ Err r → (left_by bytes found ts).out ≡ found
     unfolding leaves
     refused-leaves r e = rw (refused-some (first_refusal ts) r e)
 
-    pub record_leaves : (k : ℕ) → (left_by bytes found ts).answer ≡ Record k → (left_by bytes found ts).out ≡ bytes ++ drop k found
+    pub record_leaves : (k : ℕ) → (left_by bytes found ts).answer ≡ Ok k → (left_by bytes found ts).out ≡ bytes ++ drop k found
     unfolding leaves
     record_leaves k e =
         let what = record_none (first_refusal ts) k e in

@@ -4,6 +4,7 @@ use Prim.Native.Nat.{ℕ}
 use mathlib.Core.Path.{◌≡◌, refl}
 use mathlib.Core.List.{List, [], ◌∷◌, map}
 use lib.ListN.{replicate}
+use Rattle.std.specs.Prelude.{Result, Ok, Err}
 use Rattle.board.specs.declared.Fault.TheVariants.{TooLarge}
 use Rattle.board.specs.First.{first_of}
 use Rattle.board.specs.Board.{empty_cell, is_goal}
@@ -14,9 +15,9 @@ use Rattle.planner.specs.declared.Limit.TheVariants.{BadCeiling, NotLowest}
 use Rattle.planner.specs.Limits.{bad_ceiling, ceiling_of, bad_budget, bad_weight, divides_both, shares_divisor, limit_tests}
 use Rattle.player.specs.Play.{first_bad, bad_move}
 use Rattle.records.specs.declared.PlanRefusal.TheVariants.{Board, Beyond, TooLong, NoMove, OffGrid, NotSolved, ShortOutput}
+use Rattle.records.specs.declared.Numbers.{Numbers}
+use Rattle.records.specs.declared.ReadRefusal.{ReadRefusal}
 use Rattle.records.specs.declared.ReadRefusal.TheVariants.{CutShort, BadNumber, BadSide, LongList, BytesAfter, WrongMark, Plan}
-use Rattle.records.specs.declared.ReadAnswer.{ReadAnswer}
-use Rattle.records.specs.declared.ReadAnswer.TheVariants.{Fields as FieldsRead, Refused}
 use Rattle.records.specs.Mark.{mark_step, mark_from, mark}
 use Rattle.records.specs.Write.{list_tests, plan_tests}
 use Rattle.records.specs.Scan.{ended, groups_at, number_at, side_at, length_at, numbers_at}
@@ -26,9 +27,9 @@ use Rattle.records.specs.Read.{length_on, plan_on, cells_on, height_on, numbers_
 record Row : Type 0 where
   bytes : List ℕ
   room : ℕ
-  answer : ReadAnswer
+  answer : Result Numbers ReadRefusal
 
-abbrev row : List ℕ → ℕ → ReadAnswer → Row
+abbrev row : List ℕ → ℕ → Result Numbers ReadRefusal → Row
 row bytes room answer = record { bytes = bytes; room = room; answer = answer }
 
 -- the record worked by hand: the board 3 2 1 0 and its plan ULDRUL
@@ -38,42 +39,42 @@ worked = 2 ∷ 2 ∷ 3 ∷ 2 ∷ 1 ∷ 0 ∷ 6 ∷ 1 ∷ 1 ∷ 7 ∷ 6 ∷ 0 ∷
 -- first that record, into an output of as many bytes as it needs
 abbrev rows : List Row
 rows =
-    row worked 10 (FieldsRead (record { width = 2; height = 2; ceiling = 6; p = 1; q = 1; visits = 7; length = 6 }))
+    row worked 10 (Ok (record { width = 2; height = 2; ceiling = 6; p = 1; q = 1; visits = 7; length = 6 }))
     -- no bytes, and a record cut behind its tenth
-    ∷ row ([]) 0 (Refused (CutShort 0))
-    ∷ row (2 ∷ 2 ∷ 3 ∷ 2 ∷ 1 ∷ 0 ∷ 6 ∷ 1 ∷ 1 ∷ 7 ∷ []) 0 (Refused (CutShort 10))
+    ∷ row ([]) 0 (Err (CutShort 0))
+    ∷ row (2 ∷ 2 ∷ 3 ∷ 2 ∷ 1 ∷ 0 ∷ 6 ∷ 1 ∷ 1 ∷ 7 ∷ []) 0 (Err (CutShort 10))
     -- the mark cut by one byte
-    ∷ row (2 ∷ 2 ∷ 3 ∷ 2 ∷ 1 ∷ 0 ∷ 6 ∷ 1 ∷ 1 ∷ 7 ∷ 6 ∷ 0 ∷ 1 ∷ 3 ∷ 2 ∷ 0 ∷ 1 ∷ 12 ∷ 83 ∷ 228 ∷ []) 0 (Refused (CutShort 20))
+    ∷ row (2 ∷ 2 ∷ 3 ∷ 2 ∷ 1 ∷ 0 ∷ 6 ∷ 1 ∷ 1 ∷ 7 ∷ 6 ∷ 0 ∷ 1 ∷ 3 ∷ 2 ∷ 0 ∷ 1 ∷ 12 ∷ 83 ∷ 228 ∷ []) 0 (Err (CutShort 20))
     -- a number that begins with byte 128, even where nothing follows
-    ∷ row (2 ∷ 128 ∷ []) 0 (Refused (BadNumber 1))
+    ∷ row (2 ∷ 128 ∷ []) 0 (Err (BadNumber 1))
     -- over 32 bits; the top bit on the fifth byte
-    ∷ row (2 ∷ 2 ∷ 144 ∷ 128 ∷ 128 ∷ 128 ∷ 0 ∷ 2 ∷ 1 ∷ 0 ∷ 6 ∷ 1 ∷ 1 ∷ 7 ∷ 6 ∷ 0 ∷ 1 ∷ 3 ∷ 2 ∷ 0 ∷ 1 ∷ []) 0 (Refused (BadNumber 2))
-    ∷ row (2 ∷ 2 ∷ 129 ∷ 128 ∷ 128 ∷ 128 ∷ 128 ∷ []) 0 (Refused (BadNumber 2))
+    ∷ row (2 ∷ 2 ∷ 144 ∷ 128 ∷ 128 ∷ 128 ∷ 0 ∷ 2 ∷ 1 ∷ 0 ∷ 6 ∷ 1 ∷ 1 ∷ 7 ∷ 6 ∷ 0 ∷ 1 ∷ 3 ∷ 2 ∷ 0 ∷ 1 ∷ []) 0 (Err (BadNumber 2))
+    ∷ row (2 ∷ 2 ∷ 129 ∷ 128 ∷ 128 ∷ 128 ∷ 128 ∷ []) 0 (Err (BadNumber 2))
     -- four bytes that could begin such a number, and then none
-    ∷ row (2 ∷ 2 ∷ 144 ∷ 128 ∷ 128 ∷ 128 ∷ []) 0 (Refused (CutShort 6))
+    ∷ row (2 ∷ 2 ∷ 144 ∷ 128 ∷ 128 ∷ 128 ∷ []) 0 (Err (CutShort 6))
     -- a width and a height outside 2 to 4, before reading on
-    ∷ row (5 ∷ []) 0 (Refused (BadSide 0))
-    ∷ row (2 ∷ 1 ∷ 128 ∷ []) 0 (Refused (BadSide 1))
+    ∷ row (5 ∷ []) 0 (Err (BadSide 0))
+    ∷ row (2 ∷ 1 ∷ 128 ∷ []) 0 (Err (BadSide 1))
     -- a length of 121
-    ∷ row (2 ∷ 2 ∷ 3 ∷ 2 ∷ 1 ∷ 0 ∷ 6 ∷ 1 ∷ 1 ∷ 7 ∷ 121 ∷ []) 0 (Refused (LongList 10))
+    ∷ row (2 ∷ 2 ∷ 3 ∷ 2 ∷ 1 ∷ 0 ∷ 6 ∷ 1 ∷ 1 ∷ 7 ∷ 121 ∷ []) 0 (Err (LongList 10))
     -- a byte after the end, with the mark wrong besides; the mark wrong
-    ∷ row (2 ∷ 2 ∷ 3 ∷ 2 ∷ 1 ∷ 0 ∷ 6 ∷ 1 ∷ 1 ∷ 7 ∷ 6 ∷ 0 ∷ 1 ∷ 3 ∷ 2 ∷ 0 ∷ 1 ∷ 12 ∷ 83 ∷ 228 ∷ 0 ∷ 0 ∷ []) 0 (Refused (BytesAfter 21))
-    ∷ row (2 ∷ 2 ∷ 3 ∷ 2 ∷ 1 ∷ 0 ∷ 6 ∷ 1 ∷ 1 ∷ 7 ∷ 6 ∷ 0 ∷ 1 ∷ 3 ∷ 2 ∷ 0 ∷ 1 ∷ 12 ∷ 83 ∷ 228 ∷ 138 ∷ []) 0 (Refused WrongMark)
+    ∷ row (2 ∷ 2 ∷ 3 ∷ 2 ∷ 1 ∷ 0 ∷ 6 ∷ 1 ∷ 1 ∷ 7 ∷ 6 ∷ 0 ∷ 1 ∷ 3 ∷ 2 ∷ 0 ∷ 1 ∷ 12 ∷ 83 ∷ 228 ∷ 0 ∷ 0 ∷ []) 0 (Err (BytesAfter 21))
+    ∷ row (2 ∷ 2 ∷ 3 ∷ 2 ∷ 1 ∷ 0 ∷ 6 ∷ 1 ∷ 1 ∷ 7 ∷ 6 ∷ 0 ∷ 1 ∷ 3 ∷ 2 ∷ 0 ∷ 1 ∷ 12 ∷ 83 ∷ 228 ∷ 138 ∷ []) 0 (Err WrongMark)
     -- a cell that no byte holds; a ceiling that no i32 holds
     ∷ row (2 ∷ 2 ∷ 3 ∷ 143 ∷ 255 ∷ 255 ∷ 255 ∷ 127 ∷ 1 ∷ 0 ∷ 6 ∷ 1 ∷ 1 ∷ 7 ∷ 6 ∷ 0 ∷ 1 ∷ 3 ∷ 2 ∷ 0 ∷ 1 ∷ 199 ∷ 139 ∷ 152 ∷ 214 ∷ []) 10
-    (Refused (Plan (Board (TooLarge 1))))
+    (Err (Plan (Board (TooLarge 1))))
     ∷ row (2 ∷ 2 ∷ 3 ∷ 2 ∷ 1 ∷ 0 ∷ 143 ∷ 255 ∷ 255 ∷ 255 ∷ 127 ∷ 1 ∷ 1 ∷ 7 ∷ 6 ∷ 0 ∷ 1 ∷ 3 ∷ 2 ∷ 0 ∷ 1 ∷ 34 ∷ 8 ∷ 87 ∷ 72 ∷ []) 10
-    (Refused (Plan (Beyond BadCeiling)))
+    (Err (Plan (Beyond BadCeiling)))
     -- a weight of 2 over 2, as an earlier writer took it, before the length above the ceiling; that length
     ∷ row (2 ∷ 2 ∷ 3 ∷ 2 ∷ 1 ∷ 0 ∷ 5 ∷ 2 ∷ 2 ∷ 7 ∷ 6 ∷ 0 ∷ 1 ∷ 3 ∷ 2 ∷ 0 ∷ 1 ∷ 70 ∷ 255 ∷ 67 ∷ 116 ∷ []) 10
-    (Refused (Plan (Beyond NotLowest)))
-    ∷ row (2 ∷ 2 ∷ 3 ∷ 2 ∷ 1 ∷ 0 ∷ 5 ∷ 1 ∷ 1 ∷ 7 ∷ 6 ∷ 0 ∷ 1 ∷ 3 ∷ 2 ∷ 0 ∷ 1 ∷ 5 ∷ 49 ∷ 30 ∷ 222 ∷ []) 10 (Refused (Plan TooLong))
+    (Err (Plan (Beyond NotLowest)))
+    ∷ row (2 ∷ 2 ∷ 3 ∷ 2 ∷ 1 ∷ 0 ∷ 5 ∷ 1 ∷ 1 ∷ 7 ∷ 6 ∷ 0 ∷ 1 ∷ 3 ∷ 2 ∷ 0 ∷ 1 ∷ 5 ∷ 49 ∷ 30 ∷ 222 ∷ []) 10 (Err (Plan TooLong))
     -- a byte that is no move; a move off the grid; not at the goal, tested before the room
-    ∷ row (2 ∷ 2 ∷ 3 ∷ 2 ∷ 1 ∷ 0 ∷ 6 ∷ 1 ∷ 1 ∷ 7 ∷ 6 ∷ 0 ∷ 4 ∷ 3 ∷ 2 ∷ 0 ∷ 1 ∷ 8 ∷ 182 ∷ 252 ∷ 116 ∷ []) 10 (Refused (Plan (NoMove 1)))
-    ∷ row (2 ∷ 2 ∷ 3 ∷ 2 ∷ 1 ∷ 0 ∷ 6 ∷ 1 ∷ 1 ∷ 7 ∷ 6 ∷ 0 ∷ 0 ∷ 3 ∷ 2 ∷ 0 ∷ 1 ∷ 35 ∷ 84 ∷ 27 ∷ 128 ∷ []) 10 (Refused (Plan (OffGrid 1)))
-    ∷ row (2 ∷ 2 ∷ 3 ∷ 2 ∷ 1 ∷ 0 ∷ 6 ∷ 1 ∷ 1 ∷ 7 ∷ 2 ∷ 0 ∷ 1 ∷ 24 ∷ 36 ∷ 223 ∷ 129 ∷ []) 0 (Refused (Plan NotSolved))
+    ∷ row (2 ∷ 2 ∷ 3 ∷ 2 ∷ 1 ∷ 0 ∷ 6 ∷ 1 ∷ 1 ∷ 7 ∷ 6 ∷ 0 ∷ 4 ∷ 3 ∷ 2 ∷ 0 ∷ 1 ∷ 8 ∷ 182 ∷ 252 ∷ 116 ∷ []) 10 (Err (Plan (NoMove 1)))
+    ∷ row (2 ∷ 2 ∷ 3 ∷ 2 ∷ 1 ∷ 0 ∷ 6 ∷ 1 ∷ 1 ∷ 7 ∷ 6 ∷ 0 ∷ 0 ∷ 3 ∷ 2 ∷ 0 ∷ 1 ∷ 35 ∷ 84 ∷ 27 ∷ 128 ∷ []) 10 (Err (Plan (OffGrid 1)))
+    ∷ row (2 ∷ 2 ∷ 3 ∷ 2 ∷ 1 ∷ 0 ∷ 6 ∷ 1 ∷ 1 ∷ 7 ∷ 2 ∷ 0 ∷ 1 ∷ 24 ∷ 36 ∷ 223 ∷ 129 ∷ []) 0 (Err (Plan NotSolved))
     -- an output of one byte less
-    ∷ row worked 9 (Refused (Plan ShortOutput))
+    ∷ row worked 9 (Err (Plan ShortOutput))
     ∷ []
 
 pub called-back : map (λ r. (read_back r.bytes (replicate r.room 9)).answer) rows ≡ map (λ r. r.answer) rows

@@ -6,6 +6,7 @@ use mathlib.Core.Path.{◌≡◌, refl}
 use mathlib.Core.List.{List, [], ◌∷◌, map}
 use lib.IntN.{pos, negsuc}
 use lib.ListN.{replicate}
+use Rattle.std.specs.Prelude.{Result, Ok, Err}
 use Rattle.board.specs.declared.Fault.TheVariants.{BadShape, BadLength, TooLarge, Repeated}
 use Rattle.board.specs.First.{first_of}
 use Rattle.board.specs.Board.{empty_cell, is_goal}
@@ -15,9 +16,8 @@ use Rattle.board.specs.Faults.{fault_tests, first_too_large, first_holding, repe
 use Rattle.planner.specs.declared.Limit.TheVariants.{BadCeiling, BadBudget, BadWeight, NotLowest}
 use Rattle.planner.specs.Limits.{bad_ceiling, ceiling_of, bad_budget, bad_weight, divides_both, shares_divisor, limit_tests}
 use Rattle.player.specs.Play.{first_bad, bad_move}
+use Rattle.records.specs.declared.PlanRefusal.{PlanRefusal}
 use Rattle.records.specs.declared.PlanRefusal.TheVariants.{Board, Beyond, TooLong, NoMove, OffGrid, NotSolved, ShortOutput}
-use Rattle.records.specs.declared.Written.{Written}
-use Rattle.records.specs.declared.Written.TheVariants.{Record, Refused}
 use Rattle.records.specs.Groups.{leading_of, leading, groups, spelled}
 use Rattle.records.specs.Mark.{mark_step, mark_from, mark}
 use Rattle.records.specs.Record.{body, sealed, record_of}
@@ -59,9 +59,9 @@ worked = refl
 pub record Row : Type 0 where
   pub call : Given
   pub room : ℕ
-  pub answer : Written
+  pub answer : Result ℕ PlanRefusal
 
-abbrev row : Given → ℕ → Written → Row
+abbrev row : Given → ℕ → Result ℕ PlanRefusal → Row
 row call room answer = record { call = call; room = room; answer = answer }
 
 -- right and left, so many times over: from the goal back to the goal
@@ -76,28 +76,28 @@ longest =
 
 abbrev rows : List Row
 rows =
-    row hand_worked 21 (Record 21)
-    ∷ row longest 149 (Record 149)
-    ∷ row longest 148 (Refused ShortOutput)
+    row hand_worked 21 (Ok 21)
+    ∷ row longest 149 (Ok 149)
+    ∷ row longest 148 (Err ShortOutput)
     -- width 5, with a ceiling below 0 besides
-    ∷ row (given 5 2 board (negsuc 0) 1 1 7 plan) 21 (Refused (Board BadShape))
-    ∷ row (given 2 3 board (pos 6) 1 1 7 plan) 21 (Refused (Board BadLength))
-    ∷ row (given 2 2 (0 ∷ 1 ∷ 1 ∷ 4 ∷ []) (pos 6) 1 1 7 plan) 21 (Refused (Board (TooLarge 3)))
-    ∷ row (given 2 2 (0 ∷ 1 ∷ 1 ∷ 3 ∷ []) (pos 6) 1 1 7 plan) 21 (Refused (Board (Repeated 2)))
-    ∷ row (given 2 2 board (negsuc 0) 1 1 7 plan) 21 (Refused (Beyond BadCeiling))
-    ∷ row (given 2 2 board (pos 6) 1 1 0 plan) 21 (Refused (Beyond BadBudget))
-    ∷ row (given 2 2 board (pos 6) 1 1 1000001 plan) 21 (Refused (Beyond BadBudget))
-    ∷ row (given 2 2 board (pos 6) 1 2 7 plan) 21 (Refused (Beyond BadWeight))
+    ∷ row (given 5 2 board (negsuc 0) 1 1 7 plan) 21 (Err (Board BadShape))
+    ∷ row (given 2 3 board (pos 6) 1 1 7 plan) 21 (Err (Board BadLength))
+    ∷ row (given 2 2 (0 ∷ 1 ∷ 1 ∷ 4 ∷ []) (pos 6) 1 1 7 plan) 21 (Err (Board (TooLarge 3)))
+    ∷ row (given 2 2 (0 ∷ 1 ∷ 1 ∷ 3 ∷ []) (pos 6) 1 1 7 plan) 21 (Err (Board (Repeated 2)))
+    ∷ row (given 2 2 board (negsuc 0) 1 1 7 plan) 21 (Err (Beyond BadCeiling))
+    ∷ row (given 2 2 board (pos 6) 1 1 0 plan) 21 (Err (Beyond BadBudget))
+    ∷ row (given 2 2 board (pos 6) 1 1 1000001 plan) 21 (Err (Beyond BadBudget))
+    ∷ row (given 2 2 board (pos 6) 1 2 7 plan) 21 (Err (Beyond BadWeight))
     -- 15 is tested behind 7 and before 21
-    ∷ row (given 2 2 board (pos 6) 66 2 7 plan) 21 (Refused (Beyond BadWeight))
-    ∷ row (given 2 2 board (pos 5) 9 6 7 plan) 21 (Refused (Beyond NotLowest))
+    ∷ row (given 2 2 board (pos 6) 66 2 7 plan) 21 (Err (Beyond BadWeight))
+    ∷ row (given 2 2 board (pos 5) 9 6 7 plan) 21 (Err (Beyond NotLowest))
     -- a list above the ceiling is not looked into
-    ∷ row (given 2 2 board (pos 5) 1 1 7 (9 ∷ 9 ∷ 9 ∷ 9 ∷ 9 ∷ 9 ∷ [])) 21 (Refused TooLong)
-    ∷ row (given 2 2 board (pos 6) 1 1 7 (0 ∷ 4 ∷ 0 ∷ [])) 21 (Refused (NoMove 1))
-    ∷ row (given 2 2 board (pos 6) 1 1 7 (0 ∷ 0 ∷ 4 ∷ [])) 21 (Refused (OffGrid 1))
+    ∷ row (given 2 2 board (pos 5) 1 1 7 (9 ∷ 9 ∷ 9 ∷ 9 ∷ 9 ∷ 9 ∷ [])) 21 (Err TooLong)
+    ∷ row (given 2 2 board (pos 6) 1 1 7 (0 ∷ 4 ∷ 0 ∷ [])) 21 (Err (NoMove 1))
+    ∷ row (given 2 2 board (pos 6) 1 1 7 (0 ∷ 0 ∷ 4 ∷ [])) 21 (Err (OffGrid 1))
     -- 22 is tested before 8
-    ∷ row (given 2 2 board (pos 6) 1 1 7 (0 ∷ 1 ∷ [])) 0 (Refused NotSolved)
-    ∷ row hand_worked 20 (Refused ShortOutput)
+    ∷ row (given 2 2 board (pos 6) 1 1 7 (0 ∷ 1 ∷ [])) 0 (Err NotSolved)
+    ∷ row hand_worked 20 (Err ShortOutput)
     ∷ []
 
 pub called : map (λ r. (written r.call (replicate r.room 0)).answer) rows ≡ map (λ r. r.answer) rows

@@ -9,14 +9,13 @@ use lib.Dec.{ltb, leb, eqb}
 use lib.ListN.{length, get_or, drop, length-append, length-drop}
 use lib.Seq.{drop-cons, drop-drop, drop-append_seam, get_or-drop}
 use borrow.Author.Tests.{ltb-true, ltb-false, leb-false, eqb-false}
+use Rattle.std.specs.Prelude.{Ok, Err}
 use Rattle.records.specs.declared.ReadRefusal.TheVariants.{CutShort, BadNumber}
-use Rattle.records.specs.declared.scan.Scanned.{Scanned}
-use Rattle.records.specs.declared.scan.Scanned.TheVariants.{Number, Faulty}
 use Rattle.records.specs.Groups.{groups, worth_from, Grouped, last, more, Spells, spelled}
-use Rattle.records.specs.Scan.{ended, groups_at, number_at, numbers_at, Several, numbers, stopped, prepend, behind}
+use Rattle.records.specs.Scan.{Found, found, ended, groups_at, number_at, behind, prepend, numbers_at}
 use Rattle.records.specs.Form.{Bytes}
 use Rattle.records.proofs.theory.Grouping.{groups_spell, groups_only, groups_five, spelled-append}
-use Rattle.records.proofs.theory.Scanning.{groups-last, groups-more, ended-whole, ended_means, number_by, numbers-next}
+use Rattle.records.proofs.theory.Scanning.{found_one, groups-last, groups-more, ended-whole, ended_means, number_by, numbers-next}
 
 -- ---- bytes from a place on
 
@@ -58,7 +57,7 @@ grouped-read (more {b} {s} low high form) (suc k) v first at bytes rest few e =
     ∙ ap (λ (n : ℕ). ended first (worth_from (v * 128 + b % 128) s) n) place
 
 pub number_read : (bytes rest : List ℕ) (at v : ℕ) → v < 4294967296 → drop at bytes ≡ groups v ++ rest
-    → number_at bytes at ≡ Number v (at + length (groups v))
+    → number_at bytes at ≡ found v (at + length (groups v))
 number_read bytes rest at v small e =
     let spells = groups_spell v in
     let other : get_or bytes at 0 ≡ 128 → ⊥ = λ f. spells.shortest (sym (grouped-first spells.grouped bytes rest at e) ∙ f) in
@@ -77,10 +76,10 @@ record Stood (bytes : List ℕ) (at v w next : ℕ) : Type 0 where
   value : worth_from v text ≡ w
   small : w < 4294967296
 
-groups_stood : (k : ℕ) (bytes : List ℕ) → Bytes bytes → (first v at w next : ℕ) → groups_at k bytes first v at ≡ Number w next
+groups_stood : (k : ℕ) (bytes : List ℕ) → Bytes bytes → (first v at w next : ℕ) → groups_at k bytes first v at ≡ found w next
     → Stood bytes at v w next
 unfolding groups_at
-groups_stood zero bytes each first v at w next e = let z : ◌≡◌ {A = ℕ} 0 1 = cc in absurd (omega arith)
+groups_stood zero bytes each first v at w next e = cc
 groups_stood (suc k) bytes each first v at w next e =
     go (leb (length bytes) at) refl (ltb b 128) refl e (groups_stood k bytes each first (v * 128 + b % 128) (at + 1) w next)
   where
@@ -88,12 +87,12 @@ groups_stood (suc k) bytes each first v at w next e =
     b = get_or bytes at 0
 
     go : (t : Bool) → leb (length bytes) at ≡ t → (u : Bool) → ltb b 128 ≡ u
-        → cond t (Faulty (CutShort (length bytes)))
+        → cond t (Err (CutShort (length bytes)))
         (cond u (ended first (v * 128 + b % 128) (at + 1)) (groups_at k bytes first (v * 128 + b % 128) (at + 1)))
-        ≡ Number w next
-        → (groups_at k bytes first (v * 128 + b % 128) (at + 1) ≡ Number w next → Stood bytes (at + 1) (v * 128 + b % 128) w next)
+        ≡ found w next
+        → (groups_at k bytes first (v * 128 + b % 128) (at + 1) ≡ found w next → Stood bytes (at + 1) (v * 128 + b % 128) w next)
         → Stood bytes at v w next
-    go true h u l f ih = let z : ◌≡◌ {A = ℕ} 0 1 = cc in absurd (omega arith)
+    go true h u l f ih = cc
     go false h true l f ih =
         let end = ended_means first (v * 128 + b % 128) (at + 1) w next f in
         let place : suc at ≡ next = omega (arith, end.1) in
@@ -148,13 +147,13 @@ stand-then {bytes} {vs} {ws} {at} {mid} {next} a b =
       fits = fits_both a.fits b.fits;
     }
 
-pub number-stands : (bytes : List ℕ) → Bytes bytes → (at w next : ℕ) → number_at bytes at ≡ Number w next → Stand bytes at (w ∷ []) next
+pub number-stands : (bytes : List ℕ) → Bytes bytes → (at w next : ℕ) → number_at bytes at ≡ found w next → Stand bytes at (w ∷ []) next
 unfolding number_at spelled
 number-stands bytes each at w next e = go (eqb (get_or bytes at 0) 128) refl e
   where
-    go : (t : Bool) → eqb (get_or bytes at 0) 128 ≡ t → cond t (Faulty (BadNumber at)) (groups_at 5 bytes at 0 at) ≡ Number w next
+    go : (t : Bool) → eqb (get_or bytes at 0) 128 ≡ t → cond t (Err (BadNumber at)) (groups_at 5 bytes at 0 at) ≡ found w next
         → Stand bytes at (w ∷ []) next
-    go true h f = let z : ◌≡◌ {A = ℕ} 0 1 = cc in absurd (omega arith)
+    go true h f = cc
     go false h f =
         let stood = groups_stood 5 bytes each at 0 at w next f in
         let spells : Spells stood.text w =
@@ -172,33 +171,31 @@ number-stands bytes each at w next e = go (eqb (get_or bytes at 0) 128) refl e
 
 -- ---- several
 
-pub numbers-stand : (k : ℕ) (bytes : List ℕ) → Bytes bytes → (at : ℕ) (vs : List ℕ) (next : ℕ) → numbers_at k bytes at ≡ numbers vs next
+pub numbers-stand : (k : ℕ) (bytes : List ℕ) → Bytes bytes → (at : ℕ) (vs : List ℕ) (next : ℕ) → numbers_at k bytes at ≡ found vs next
     → Stand bytes at vs next
 unfolding numbers_at
 numbers-stand zero bytes each at vs next e =
-    let empty : [] ≡ vs = cc in
-    let place : at ≡ next = cc in
-    subst (λ (l : List ℕ). Stand bytes at l next) empty (subst (λ (n : ℕ). Stand bytes at [] n) place (stand-none bytes at))
+    let one' = found_one e in
+    subst (λ (l : List ℕ). Stand bytes at l next) one'.0 (subst (λ (n : ℕ). Stand bytes at [] n) one'.1 (stand-none bytes at))
 numbers-stand (suc k) bytes each at vs next e = first (number_at bytes at) refl e (numbers-stand k bytes each)
   where
-    second : (v to : ℕ) → Stand bytes at (v ∷ []) to → (s : Several) → numbers_at k bytes to ≡ s → prepend v s ≡ numbers vs next
-        → ((ws : List ℕ) (n : ℕ) → numbers_at k bytes to ≡ numbers ws n → Stand bytes to ws n) → Stand bytes at vs next
-    second v to one' (stopped why) is f ih = let z : ◌≡◌ {A = ℕ} 0 1 = cc in absurd (omega arith)
-    second v to one' (numbers ws n) is f ih =
-        let all : v ∷ ws ≡ vs = cc in
-        let place : n ≡ next = cc in
-        subst (λ (l : List ℕ). Stand bytes at l next) all
-        (subst (λ (m : ℕ). Stand bytes at (v ∷ ws) m) place (stand-then one' (ih ws n is)))
+    second : (v to : ℕ) → Stand bytes at (v ∷ []) to → (s : Found (List ℕ)) → numbers_at k bytes to ≡ s → prepend v s ≡ found vs next
+        → ((ws : List ℕ) (n : ℕ) → numbers_at k bytes to ≡ found ws n → Stand bytes to ws n) → Stand bytes at vs next
+    second v to one' (Err why) is f ih = cc
+    second v to one' (Ok (ws, n)) is f ih =
+        let both = found_one f in
+        subst (λ (l : List ℕ). Stand bytes at l next) both.0
+        (subst (λ (m : ℕ). Stand bytes at (v ∷ ws) m) both.1 (stand-then one' (ih ws n is)))
 
-    first : (s : Scanned) → number_at bytes at ≡ s → behind stopped s (λ v to. prepend v (numbers_at k bytes to)) ≡ numbers vs next
-        → ((a : ℕ) (ws : List ℕ) (n : ℕ) → numbers_at k bytes a ≡ numbers ws n → Stand bytes a ws n) → Stand bytes at vs next
-    first (Faulty why) is f ih = let z : ◌≡◌ {A = ℕ} 0 1 = cc in absurd (omega arith)
-    first (Number v to) is f ih = second v to (number-stands bytes each at v to is) (numbers_at k bytes to) refl f (ih to)
+    first : (s : Found ℕ) → number_at bytes at ≡ s → behind s (λ v to. prepend v (numbers_at k bytes to)) ≡ found vs next
+        → ((a : ℕ) (ws : List ℕ) (n : ℕ) → numbers_at k bytes a ≡ found ws n → Stand bytes a ws n) → Stand bytes at vs next
+    first (Err why) is f ih = cc
+    first (Ok (v, to)) is f ih = second v to (number-stands bytes each at v to is) (numbers_at k bytes to) refl f (ih to)
 
 pub numbers-read : {vs : List ℕ} → Fits vs → (bytes rest : List ℕ) (at : ℕ) → drop at bytes ≡ spelled vs ++ rest
-    → numbers_at (length vs) bytes at ≡ numbers vs (at + length (spelled vs))
+    → numbers_at (length vs) bytes at ≡ found vs (at + length (spelled vs))
 unfolding numbers_at spelled
-numbers-read none bytes rest at e = let place : at ≡ at + 0 = omega arith in ap (numbers []) place
+numbers-read none bytes rest at e = let place : at ≡ at + 0 = omega arith in ap (found []) place
 numbers-read (one {v} {vs} small fits) bytes rest at e =
     let whole = e ∙ append_assoc (groups v) (spelled vs) rest in
     let behind' = drop-behind bytes at (groups v) (spelled vs ++ rest) whole in
@@ -206,4 +203,4 @@ numbers-read (one {v} {vs} small fits) bytes rest at e =
     omega (arith, length-append (groups v) (spelled vs)) in
     numbers-next (length vs) bytes at v (at + length (groups v)) (number_read bytes (spelled vs ++ rest) at v small whole)
     ∙ ap (prepend v) (numbers-read fits bytes rest (at + length (groups v)) behind')
-    ∙ ap (numbers (v ∷ vs)) place
+    ∙ ap (found (v ∷ vs)) place

@@ -9,16 +9,15 @@ use lib.Dec.{eqb}
 use lib.ListN.{length, get_or, drop, length-append, length-drop}
 use lib.Seq.{get_or-append-add, get_or-drop}
 use borrow.Author.Tests.{le-ltb, eq-eqb, eqb-true}
+use Rattle.std.specs.Prelude.{Ok, Err}
 use Rattle.board.proofs.Laws.{side_passes}
 use Rattle.records.specs.declared.Numbers.{Numbers}
-use Rattle.records.specs.declared.scan.Scanned.{Scanned}
-use Rattle.records.specs.declared.scan.Scanned.TheVariants.{Number, Faulty}
 use Rattle.records.specs.Groups.{groups, spelled}
 use Rattle.records.specs.Mark.{mark_bytes}
 use Rattle.records.specs.Form.{Bytes}
-use Rattle.records.specs.Scan.{side_at, length_at, numbers_at, Several, numbers, stopped, behind, behind_all}
-use Rattle.records.specs.Read.{Begun, begun, halted, numbers_of, length_on, plan_on, cells_on, height_on, numbers_in, mark_stands}
-use Rattle.records.specs.Read.{CellsRead}
+use Rattle.records.specs.Scan.{Found, found, side_at, length_at, numbers_at, behind}
+use Rattle.records.specs.Read.{Begun, begun, numbers_of, length_on, plan_on, cells_on, height_on, numbers_in, mark_stands}
+use Rattle.records.specs.Read.{CellsRead, NumbersRead}
 use Rattle.records.proofs.theory.Grouping.{spelled-append}
 use Rattle.records.proofs.theory.Scanning.{number-inside, side_means, length_means, numbers-count}
 use Rattle.records.proofs.theory.Standing.{Fits, none as no-numbers, one, Stand, stand-then, number-stands, numbers-stand}
@@ -33,27 +32,16 @@ listed n cells = n.width ∷ n.height ∷ cells ++ (plan_of n ++ n.length ∷ []
 
 -- ---- what is found stands there
 
-record Found (s : Scanned) (P : ℕ → ℕ → Type 0) : Type 0 where
-  value : ℕ
+record Reached {A : Type 0} (s : Found A) (P : A → ℕ → Type 0) : Type 0 where
+  value : A
   next : ℕ
-  is : s ≡ Number value next
+  is : s ≡ found value next
   goes : P value next
 
-record FoundAll (s : Several) (P : List ℕ → ℕ → Type 0) : Type 0 where
-  values : List ℕ
-  next : ℕ
-  is : s ≡ numbers values next
-  goes : P values next
-
-module _ (n : Numbers) (cells : List ℕ) (at : ℕ) where
-  found : (s : Scanned) (go : ℕ → ℕ → Begun) → behind halted s go ≡ begun n cells at → Found s (λ v next. go v next ≡ begun n cells at)
-  found (Faulty why) go e = let z : ◌≡◌ {A = ℕ} 0 1 = cc in absurd (omega arith)
-  found (Number v next) go e = record { value = v; next = next; is = refl; goes = e }
-
-  found_all : (s : Several) (go : List ℕ → ℕ → Begun) → behind_all halted s go ≡ begun n cells at
-      → FoundAll s (λ vs next. go vs next ≡ begun n cells at)
-  found_all (stopped why) go e = let z : ◌≡◌ {A = ℕ} 0 1 = cc in absurd (omega arith)
-  found_all (numbers vs next) go e = record { values = vs; next = next; is = refl; goes = e }
+module _ {A : Type 0} (n : Numbers) (cells : List ℕ) (at : ℕ) where
+  reached : (s : Found A) (go : A → ℕ → Begun) → behind s go ≡ begun n cells at → Reached s (λ v next. go v next ≡ begun n cells at)
+  reached (Err why) go e = cc
+  reached (Ok (v, next)) go e = record { value = v; next = next; is = refl; goes = e }
 
 four-of : (l : List ℕ) → length l ≡ 4 → l ≡ get_or l 0 0 ∷ get_or l 1 0 ∷ get_or l 2 0 ∷ get_or l 3 0 ∷ []
 four-of [] e = absurd (omega arith)
@@ -64,83 +52,75 @@ four-of (a ∷ b ∷ c ∷ d ∷ []) e = refl
 four-of (a ∷ b ∷ c ∷ d ∷ f ∷ l) e = absurd (omega arith)
 
 pub record Opened (bytes : List ℕ) (n : Numbers) (cells : List ℕ) (at : ℕ) : Type 0 where
-  pub stand : Stand bytes 0 (listed n cells) at
-  pub read : CellsRead n.width n.height cells
-  pub few : n.length ≤ 120
-  pub inside : at ≤ length bytes
+  pub stand : Bytes bytes → Stand bytes 0 (listed n cells) at
+  pub read : NumbersRead bytes n cells at
 
-module _ (bytes : List ℕ) (each : Bytes bytes) where
+module _ (bytes : List ℕ) where
   length_opened : (width height : ℕ) (cells plan : List ℕ) (before : List ℕ) (at : ℕ) (n : Numbers) (cs : List ℕ) (to : ℕ)
-      → Stand bytes 0 before at → length plan ≡ 4 → CellsRead width height cells → before ≡ width ∷ height ∷ cells ++ plan
+      → (Bytes bytes → Stand bytes 0 before at) → length plan ≡ 4 → CellsRead width height cells → before ≡ width ∷ height ∷ cells ++ plan
       → length_on bytes width height cells plan at ≡ begun n cs to → Opened bytes n cs to
   unfolding length_on
   length_opened width height cells plan before at n cs to stand four read is e =
-      let f = found n cs to (length_at bytes at) (λ moves next. begun (numbers_of width height plan moves) cells next) e in
+      let f = reached n cs to (length_at bytes at) (λ moves next. begun (numbers_of width height plan moves) cells next) e in
       let means = length_means bytes at f.value f.next f.is in
-      let last = number-stands bytes each at f.value f.next means.0 in
-      let all = stand-then (subst (λ (l : List ℕ). Stand bytes 0 l at) is stand) last in
+      let all = λ (each : Bytes bytes).
+      stand-then (subst (λ (l : List ℕ). Stand bytes 0 l at) is (stand each)) (number-stands bytes each at f.value f.next means.0) in
       let order : (width ∷ height ∷ cells ++ plan) ++ f.value ∷ [] ≡ listed (numbers_of width height plan f.value) cells =
       ap (λ (l : List ℕ). width ∷ height ∷ l)
       (append_assoc cells plan (f.value ∷ []) ∙ ap (λ (l : List ℕ). cells ++ (l ++ f.value ∷ [])) (four-of plan four)) in
       let opened : Opened bytes (numbers_of width height plan f.value) cells f.next =
       record {
-        stand = subst (λ (l : List ℕ). Stand bytes 0 l f.next) order all;
-        read = read;
-        few = means.1;
-        inside = number-inside bytes at f.value f.next means.0;
+        stand = λ each. subst (λ (l : List ℕ). Stand bytes 0 l f.next) order (all each);
+        read = record { board = read; few = means.1; inside = number-inside bytes at f.value f.next means.0 };
       } in
       same (numbers_of width height plan f.value) n cells cs f.next to f.goes opened
     where
       same : (n n' : Numbers) (c c' : List ℕ) (a a' : ℕ) → begun n c a ≡ begun n' c' a' → Opened bytes n c a → Opened bytes n' c' a'
       same n n' c c' a a' e opened =
-          let one-n : n ≡ n' = cc in
-          let one-c : c ≡ c' = cc in
-          let one-a : a ≡ a' = cc in
-          subst (λ (k : ℕ). Opened bytes n' c' k) one-a
-          (subst (λ (l : List ℕ). Opened bytes n' l a) one-c (subst (λ (m : Numbers). Opened bytes m c a) one-n opened))
+          let all : ◌≡◌ {A = Numbers × List ℕ × ℕ} (n, c, a) (n', c', a') = cc in
+          subst (λ (t : Numbers × List ℕ × ℕ). Opened bytes t.0 t.1 t.2) all opened
 
   plan_opened : (width height : ℕ) (cells : List ℕ) (at : ℕ) (n : Numbers) (cs : List ℕ) (to : ℕ)
-      → Stand bytes 0 (width ∷ height ∷ cells) at → CellsRead width height cells
+      → (Bytes bytes → Stand bytes 0 (width ∷ height ∷ cells) at) → CellsRead width height cells
       → plan_on bytes width height cells at ≡ begun n cs to → Opened bytes n cs to
   unfolding plan_on
   plan_opened width height cells at n cs to stand read e =
-      let f = found_all n cs to (numbers_at 4 bytes at) (λ plan next. length_on bytes width height cells plan next) e in
-      let all = numbers-stand 4 bytes each at f.values f.next f.is in
-      length_opened width height cells f.values (width ∷ height ∷ cells ++ f.values) f.next n cs to (stand-then stand all)
-      (numbers-count 4 bytes at f.values f.next f.is) read refl f.goes
+      let f = reached n cs to (numbers_at 4 bytes at) (λ plan next. length_on bytes width height cells plan next) e in
+      length_opened width height cells f.value (width ∷ height ∷ cells ++ f.value) f.next n cs to
+      (λ each. stand-then (stand each) (numbers-stand 4 bytes each at f.value f.next f.is))
+      (numbers-count 4 bytes at f.value f.next f.is) read refl f.goes
 
   cells_opened : (width height at : ℕ) (n : Numbers) (cs : List ℕ) (to : ℕ)
-      → Stand bytes 0 (width ∷ height ∷ []) at → ((l : List ℕ) → length l ≡ width * height → CellsRead width height l)
+      → (Bytes bytes → Stand bytes 0 (width ∷ height ∷ []) at) → ((l : List ℕ) → length l ≡ width * height → CellsRead width height l)
       → cells_on bytes width height at ≡ begun n cs to → Opened bytes n cs to
   unfolding cells_on
   cells_opened width height at n cs to stand read e =
-      let f = found_all n cs to (numbers_at (width * height) bytes at) (λ cells next. plan_on bytes width height cells next) e in
-      let all = numbers-stand (width * height) bytes each at f.values f.next f.is in
-      plan_opened width height f.values f.next n cs to (stand-then stand all)
-      (read f.values (numbers-count (width * height) bytes at f.values f.next f.is)) f.goes
+      let f = reached n cs to (numbers_at (width * height) bytes at) (λ cells next. plan_on bytes width height cells next) e in
+      plan_opened width height f.value f.next n cs to
+      (λ each. stand-then (stand each) (numbers-stand (width * height) bytes each at f.value f.next f.is))
+      (read f.value (numbers-count (width * height) bytes at f.value f.next f.is)) f.goes
 
   pub numbers_opened : (n : Numbers) (cs : List ℕ) (to : ℕ) → numbers_in bytes ≡ begun n cs to → Opened bytes n cs to
   unfolding numbers_in height_on
   numbers_opened n cs to e =
-      let w = found n cs to (side_at bytes 0) (λ width next. height_on bytes width next) e in
-      let h = found n cs to (side_at bytes w.next) (λ height next. cells_on bytes w.value height next) w.goes in
+      let w = reached n cs to (side_at bytes 0) (λ width next. height_on bytes width next) e in
+      let h = reached n cs to (side_at bytes w.next) (λ height next. cells_on bytes w.value height next) w.goes in
       let wide = side_means bytes 0 w.value w.next w.is in
       let high = side_means bytes w.next h.value h.next h.is in
-      let both = stand-then (number-stands bytes each 0 w.value w.next wide.0)
-      (number-stands bytes each w.next h.value h.next high.0) in
-      cells_opened w.value h.value h.next n cs to both
+      cells_opened w.value h.value h.next n cs to
+      (λ each. stand-then (number-stands bytes each 0 w.value w.next wide.0) (number-stands bytes each w.next h.value h.next high.0))
       (λ l long. record { wide = wide.1; high = high.1; long = long }) h.goes
 
 -- the place behind the numbers is as far as they are long
-pub opened_place : {bytes : List ℕ} {n : Numbers} {cells : List ℕ} {at : ℕ} → Opened bytes n cells at
+pub opened_place : {bytes : List ℕ} {n : Numbers} {cells : List ℕ} {at : ℕ} → Bytes bytes → Opened bytes n cells at
     → at ≡ length (spelled (listed n cells))
-opened_place {bytes} {n} {cells} {at} o =
+opened_place {bytes} {n} {cells} {at} each o =
     omega (
       arith,
-      ap length o.stand.begins,
+      ap length (o.stand each).begins,
       length-append (spelled (listed n cells)) (drop at bytes),
       length-drop at bytes,
-      o.inside,
+      o.read.inside,
     )
 
 -- ---- what stands there is found
@@ -239,7 +219,7 @@ both_true : (t u : Bool) → t && u ≡ true → (t ≡ true) × (u ≡ true)
 both_true true u e = (refl, e)
 both_true false u e = absurd (true≢false (sym e))
 
-four-left : (l : List ℕ) (e : ℕ) → length l ≡ e + 4
+pub four-left : (l : List ℕ) (e : ℕ) → length l ≡ e + 4
     → drop e l ≡ get_or l e 0 ∷ get_or l (e + 1) 0 ∷ get_or l (e + 2) 0 ∷ get_or l (e + 3) 0 ∷ []
 four-left l e long =
     four_of' (drop e l) (omega (arith, length-drop e l)) ∙ rw (at 0, at 1, at 2, at 3, zero')

@@ -1,4 +1,5 @@
--- An answer in one number: what the number reads as by its three parts, and the numbers that the code makes. Assumes nothing.
+-- An answer in one number, as visits once handed it up: what the number reads as by its three parts, and the numbers that were made.
+-- Assumes nothing.
 use Prim.Native.Nat.{ℕ, ◌+◌, ◌*◌, ◌/◌, ◌%◌, ◌≤◌, ◌<◌}
 use mathlib.Core.Path.{◌≡◌}
 use mathlib.Core.Bool.{cond}

@@ -1,15 +1,16 @@
 -- How the code picks a move: the first of the four whose value is the least, with the least of the other three. First which of two
 -- choices is the better, then the least of four values, then the four cases. Assumes nothing.
 use Prim.Native.Nat.{ℕ, ◌≤◌, ◌<◌, min}
-use mathlib.Core.Path.{◌≡◌, refl, ap, sym, ◌∙◌}
+use mathlib.Core.Path.{◌≡◌, refl, ap, sym, ◌∙◌, subst}
 use mathlib.Core.Bool.{Bool, true, false, cond}
 use mathlib.Core.List.{List, [], ◌∷◌}
 use native.Mathlib.Omega.{arith}
 use lib.Dec.{ltb}
+use lib.ListN.{length, get_or}
 use borrow.Author.Tests.{ltb-true, ltb-false, lt-ltb, le-ltb}
 use Rattle.search.specs.declared.Choice.{Choice}
 use Rattle.search.specs.declared.Pick.{Pick}
-use Rattle.search.specs.Row.{infinity, entry, better, best_of, best, masked, second}
+use Rattle.search.specs.Row.{infinity, better, best_of, best, masked, second}
 use Rattle.search.specs.Run.{Picks}
 
 abbrev choice : ℕ → ℕ → Choice
@@ -106,7 +107,24 @@ module _ (a b c d : ℕ) where
             (only_fourth a b c d (λ e. not0 (e ∙ sym four)) (λ e. not1 (e ∙ sym four)) (λ e. not2 (e ∙ sym four))))) s
             (f ∙ ap (min (min a b)) (beside c small) ∙ sym (least-of-four a b c infinity))
 
--- a row is picked from by its four entries
-pub picks-entries : (r : List ℕ) (x : Pick) → Picks (entry r 0 ∷ entry r 1 ∷ entry r 2 ∷ entry r 3 ∷ []) x → Picks r x
-unfolding best second
-picks-entries r x p = record { is_best = p.is_best; is_second = p.is_second }
+-- ---- a row by its four numbers
+
+by-four : (r : List ℕ) → length r ≡ 4 → r ≡ get_or r 0 0 ∷ get_or r 1 0 ∷ get_or r 2 0 ∷ get_or r 3 0 ∷ []
+by-four [] e = absurd (omega arith)
+by-four (a ∷ []) e = absurd (omega arith)
+by-four (a ∷ b ∷ []) e = absurd (omega arith)
+by-four (a ∷ b ∷ c ∷ []) e = absurd (omega arith)
+by-four (a ∷ b ∷ c ∷ d ∷ []) e = refl
+by-four (a ∷ b ∷ c ∷ d ∷ x ∷ r) e = absurd (omega arith)
+
+module _ (r : List ℕ) (long : length r ≡ 4) where
+  pub best-row : best_of (get_or r 0 0) (get_or r 1 0) (get_or r 2 0) (get_or r 3 0) ≡ best r
+  unfolding best
+  best-row = sym (ap best (by-four r long))
+
+  pub least-row : (least : ℕ) → least ≡ (best r).value
+      → least ≡ (best_of (get_or r 0 0) (get_or r 1 0) (get_or r 2 0) (get_or r 3 0)).value
+  least-row least is = is ∙ ap (λ (x : Choice). x.value) (sym best-row)
+
+  pub picks-row : (x : Pick) → Picks (get_or r 0 0 ∷ get_or r 1 0 ∷ get_or r 2 0 ∷ get_or r 3 0 ∷ []) x → Picks r x
+  picks-row x p = subst (λ (l : List ℕ). Picks l x) (sym (by-four r long)) p

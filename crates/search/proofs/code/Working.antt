@@ -24,7 +24,7 @@ use Rattle.search.proofs.theory.Successors.{Legal, best-legal, set-legal}
 use Rattle.search.proofs.theory.Ahead.{Past, ReturnsPast, visit-past, least-returned, last-visit, next-least, next-goes-on}
 use Rattle.search.proofs.theory.Budget.{Spends, visit_spends}
 use Rattle.search.proofs.code.BoardSpace.{passed}
-use Rattle.search.proofs.code.TableRows.{row-set, below_set, row_kept, below-kept}
+use Rattle.search.proofs.code.TableRows.{lent_row, lent-row, row-set, below_set, row_kept, below-kept}
 use Rattle.search.proofs.code.Outcomes.{told-found, told-value, told-spent, ran_for, ran-found, ran-value, ran-spent}
 
 -- a visit to the successor of the board b by the move m, from depth g
@@ -56,7 +56,10 @@ module _ (visit_of : ℕ → ℕ → ℕ → ℕ → Outcome) (bound : ℕ) (r :
   work-turns whole zero h e is = absurd (omega arith)
   work-turns whole (suc turns) h e is = record { further = turns; enough = omega arith; is = rw e at is }
 
--- ---- the code's pick x of the row r
+-- ---- the code's pick x of the row r, or of the row that was lent
+
+pub picks-lent : (table : List ℕ) (g : ℕ) (x : Pick) → Picks (lent_row table g) x → Picks (row_at table g) x
+picks-lent table g x picks = subst (λ (l : List ℕ). Picks l x) (lent-row table g) picks
 
 module _ (r : List ℕ) (x : Pick) (picks : Picks r x) where
   pub picked_move : x.step < 4
@@ -128,13 +131,14 @@ module _ (job : Job) (b : List ℕ) (g bound : ℕ) (table₀ moves₀ : List �
   -- the code's call, at the loop's head, is such a visit
   pub as_made : {table moves : List ℕ} {left least : ℕ} {x : Pick} {next : List ℕ} {down : ℕ} {o : Out} {table' moves' : List ℕ}
       → Working table moves left least
-      → Picks (row_at table g) x
+      → Picks (lent_row table g) x
       → next ≡ (boards job.shape).makes b x.step
       → down ≡ min bound x.second
       → Ran (g + 1) (visited job next x.step (g + 1) least down left) table moves o table' moves'
       → length table' ≡ length table
       → VisitMade table moves left least x o table' moves'
-  as_made {table = table} {left = left} {least = least} {x = x} {next = next} {down = down} working picks makes handed ran rows =
+  as_made {table = table} {left = left} {least = least} {x = x} {next = next} {down = down} working lent makes handed ran rows =
+      let picks = picks-lent table g x lent in
       record {
         working = working;
         picks = picks;

@@ -3,7 +3,6 @@
 use Prim.Native.Nat.{ℕ, ◌+◌, ◌*◌, ◌<◌}
 use mathlib.Core.Path.{◌≡◌, sym, ap, ◌∙◌}
 use mathlib.Core.List.{List}
-use native.Mathlib.Omega.{arith}
 use lib.ListN.{get_or}
 use Rattle.board.specs.declared.Shape.{Shape}
 use Rattle.board.specs.Shape.{cells, GoodShape}
@@ -35,26 +34,6 @@ entry-is s table i v a c good t tray cell value at-cell at_value =
 pub returns-then-v-eq0 : goal.returns-then-v-eq0
 returns-then-v-eq0 c =
     no-tray _ _ _ c.if-v-eq0.true
-
-pub overflow_mul-result : goal.overflow_mul-result
-overflow_mul-result c =
-    omega (arith, four-wide-inside _ c.requires.good_shape c.args.i c.requires.i_bound.0)
-
-pub overflow_add-result : goal.overflow_add-result
-overflow_add-result c =
-    omega (
-      arith,
-      four-wide-inside _ c.requires.good_shape c.args.i c.requires.i_bound.0,
-      four-wide-inside _ c.requires.good_shape c.args.v c.requires.i_bound.1,
-    )
-
-pub bounds-table-four_wide : goal.bounds-table-four_wide
-bounds-table-four_wide c =
-    omega (
-      arith,
-      four-wide-inside _ c.requires.good_shape c.args.i c.requires.i_bound.0,
-      four-wide-inside _ c.requires.good_shape c.args.v c.requires.i_bound.1,
-    )
 
 pub returns : goal.returns
 returns c =

@@ -1,12 +1,8 @@
--- What the loop of `board::distance::put_near` keeps, and what falls at each turn. Assumes nothing.
-use Prim.Native.Nat.{◌*◌, ◌-◌, ◌≤◌}
+-- What the loop of `board::distance::put_near` keeps. Assumes nothing.
+use Prim.Native.Nat.{◌*◌}
 use Rattle.board.specs.Distance.{tray_distance, RunPut}
 use Rattle.board.proofs.distance.put_near.Given as goal
 
 abbrev pub invariant-loop-v : goal.invariant-loop-v
 invariant-loop-v l =
-    (l.v ≤ l.n) × RunPut (tray_distance l.shape l.e) (64 * l.e) l.v l.initial.near l.near
-
-abbrev pub decreases-loop-v : goal.decreases-loop-v
-decreases-loop-v l =
-    l.n - l.v
+    RunPut (tray_distance l.shape l.e) (64 * l.e) l.v l.initial.near l.near

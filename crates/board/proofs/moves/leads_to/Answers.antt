@@ -1,7 +1,7 @@
 -- `board::moves::leads_to` meets its contract: a move that stays on the grid leads to a cell, by the clause for that move.
 -- Assumes nothing.
 use Prim.Native.Nat.{ℕ, zero, suc, ◌<◌, ◌≤◌, ◌+◌, ◌/◌, ◌%◌}
-use mathlib.Core.Path.{◌≡◌, refl, ap, sym, ◌∙◌}
+use mathlib.Core.Path.{◌≡◌, refl}
 use native.Mathlib.Omega.{arith}
 use borrow.Author.Tests.{ltb-true}
 use Rattle.board.specs.declared.Shape.{Shape}
@@ -21,53 +21,43 @@ right-of-a-column three e h = omega arith
 right-of-a-column four e h = omega arith
 
 -- the last clause serves every move that is none of the first three
-last-clause : (s : Shape) (e m : ℕ) → (m ≡ 0 → ⊥) → (m ≡ 1 → ⊥) → (m ≡ 2 → ⊥) → e + s.width ≡ leads_to s e m
+last-clause : (s : Shape) (e m : ℕ) → 3 ≤ m → e + s.width ≡ leads_to s e m
 unfolding leads_to
-last-clause s e zero a b c = absurd (a refl)
-last-clause s e (suc zero) a b c = absurd (b refl)
-last-clause s e (suc (suc zero)) a b c = absurd (c refl)
-last-clause s e (suc (suc (suc m))) a b c = refl
+last-clause s e zero h = absurd (omega arith)
+last-clause s e (suc zero) h = absurd (omega arith)
+last-clause s e (suc (suc zero)) h = absurd (omega arith)
+last-clause s e (suc (suc (suc m))) h = refl
 
 pub overflow_sub-result : goal.overflow_sub-result
 unfolding stays_on
 overflow_sub-result c =
-    let s = c.args.shape in
-    let e = c.args.e in
-    below-a-row c.requires.good_shape.wide e
-    (ltb-true 0 (e / s.width) (ap (λ (m : ℕ). stays_on s e m) (sym c.if-m-eq0.true) ∙ c.requires.on_the_grid))
+    below-a-row c.requires.good_shape.wide _ (ltb-true _ _ (rw c.in-0.is at c.requires.on_the_grid))
 
-pub returns-then-m-eq0 : goal.returns-then-m-eq0
+pub returns-in-0 : goal.returns-in-0
 unfolding leads_to
-returns-then-m-eq0 c =
-    rw c.if-m-eq0.true
+returns-in-0 c =
+    rw c.in-0.is
 
-pub overflow_sub-result-then-m-eq1 : goal.overflow_sub-result-then-m-eq1
+pub overflow_sub-result-in-1 : goal.overflow_sub-result-in-1
 unfolding stays_on
-overflow_sub-result-then-m-eq1 c =
-    let s = c.args.shape in
-    let e = c.args.e in
-    right-of-a-column c.requires.good_shape.wide e
-    (ltb-true 0 (e % s.width) (ap (λ (m : ℕ). stays_on s e m) (sym c.if-m-eq1.true) ∙ c.requires.on_the_grid))
+overflow_sub-result-in-1 c =
+    right-of-a-column c.requires.good_shape.wide _ (ltb-true _ _ (rw c.in-1.is at c.requires.on_the_grid))
 
-pub returns-then-m-eq1 : goal.returns-then-m-eq1
+pub returns-in-1 : goal.returns-in-1
 unfolding leads_to
-returns-then-m-eq1 c =
-    rw c.if-m-eq1.true
+returns-in-1 c =
+    rw c.in-1.is
 
-pub overflow_add-result : goal.overflow_add-result
-overflow_add-result c =
-    omega (arith, cells-within c.requires.good_shape)
-
-pub returns-then-m-eq2 : goal.returns-then-m-eq2
+pub returns-in-2 : goal.returns-in-2
 unfolding leads_to
-returns-then-m-eq2 c =
-    rw c.if-m-eq2.true
+returns-in-2 c =
+    rw c.in-2.is
 
-pub overflow_add-result-2 : goal.overflow_add-result-2
-overflow_add-result-2 c =
+pub overflow_add-result-in_default : goal.overflow_add-result-in_default
+overflow_add-result-in_default c =
     let good = c.requires.good_shape in
     omega (arith, cells-within good, side_within good.wide)
 
-pub returns : goal.returns
-returns c =
-    last-clause _ _ _ c.if-m-eq0.false c.if-m-eq1.false c.if-m-eq2.false
+pub returns-in_default : goal.returns-in_default
+returns-in_default c =
+    last-clause _ _ _ (omega arith)

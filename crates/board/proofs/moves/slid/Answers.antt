@@ -26,10 +26,6 @@ module _ (p : Position) (t : ℕ) (may : Slides p t) where
   moved : p.cells - shifted t + shifted p.empty + digit p.cells t * 16 ^ t ≡ p.cells + digit p.cells t * 16 ^ p.empty
   moved = omega (arith, part, shifted-is t may.target, shifted-is p.empty may.empty)
 
-pub overflow_sub-cells : goal.overflow_sub-cells
-overflow_sub-cells c =
-    part c.args.p c.args.t c.requires
-
 pub overflow_add-cells : goal.overflow_add-cells
 overflow_add-cells c =
     record { fits = fits c.args.p c.args.t c.requires }

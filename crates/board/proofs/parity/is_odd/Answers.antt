@@ -40,22 +40,18 @@ module _ (s : Shape) (p : Position) (k : ℕ) (holds : Holds s p) (few : FewExch
     column-below = omega (arith, cell-column holds.shape p.empty, side_within holds.shape.wide);
   }
 
-pub nonzero_div-row : goal.nonzero_div-row
-nonzero_div-row c =
-    omega (arith, side_within c.requires.shape.wide)
-
-pub nonzero_rem-column : goal.nonzero_rem-column
-nonzero_rem-column c =
-    omega (arith, side_within c.requires.shape.wide)
+pub row_and_column-row-requires-clause-i_bound : goal.row_and_column-row-requires-clause-i_bound
+row_and_column-row-requires-clause-i_bound c =
+    empty-below _ _ c.requires
 
 pub overflow_add-result : goal.overflow_add-result
 overflow_add-result c =
-    omega (arith, sum_room _ _ _ c.requires c.exchanges-count.ensures)
+    omega (arith, sum_room _ _ _ c.requires c.exchanges-count.ensures, c.row_and_column-row.ensures)
 
 pub overflow_add-result-2 : goal.overflow_add-result-2
 overflow_add-result-2 c =
-    omega (arith, sum_room _ _ _ c.requires c.exchanges-count.ensures)
+    omega (arith, sum_room _ _ _ c.requires c.exchanges-count.ensures, c.row_and_column-row.ensures)
 
 pub returns : goal.returns
 returns c =
-    answered _ _ _ c.requires c.exchanges-count.ensures
+    rw (c.row_and_column-row.ensures.row, c.row_and_column-row.ensures.column) (answered _ _ _ c.requires c.exchanges-count.ensures)

@@ -1,13 +1,13 @@
 -- `lowpengine::planning::plan_in_bytes` meets its contract: the planner's answer for the table's numbers (OwnTable), packed, and the
 -- bytes cleared where its numbers stand. Assumes nothing.
-use Rattle.std.proofs.Common.{ℕ, ◌≡◌, ◌∙◌, ◌≤◌, ◌*◌, ◌/◌, min, Bool, List, length, take, ℤ, to_z, of_z, w32, refl, sym, arith}
+use Rattle.std.proofs.Common.{rules, ℕ, ◌≡◌, ◌∙◌, ◌≤◌, ◌*◌, ◌/◌, min, Bool, List, length, take, ℤ, to_z, of_z, w32, refl, sym, arith}
 use mathlib.Core.Path.{ap₂}
 use lib.Seq.{length-take-le}
 use mir.Val.{SFits}
 use mir.ValLaws.{to_z-of_z}
-use Rattle.planner.specs.declared.Answer.{Answer}
+use Rattle.planner.specs.Answer.{Answer}
 use Rattle.planner.specs.Answer.{answered, called, search_ran, Settles}
-use Rattle.lowpengine.specs.Bytes.{numbers, numbers_used}
+use Rattle.lowpengine.specs.Bytes.{AllBytes, numbers, numbers_used}
 use Rattle.lowpengine.proofs.code.OwnTable.{Answered, by_own-table, fields-apart, bytes-within, all-given}
 use Rattle.lowpengine.proofs.planning.plan_in_bytes.Goals as goal
 
@@ -27,44 +27,42 @@ module _ (w h : ℕ) (b : List ℕ) (z : ℤ) (budget p q : ℕ) (moves t own : 
     within : 2 * k ≤ length t
     within = bytes-within w h b z budget p q moves t r moves' planned k used
 
-pub slice_bounds-plan-end : goal.slice_bounds-plan-end
-slice_bounds-plan-end c = sym (length-take-le _ _ (omega (arith, c.numbers_lent-lent.ensures)))
-
 pub overflow_mul-used : goal.overflow_mul-used
 overflow_mul-used c =
     omega (
       arith,
-      within _ _ _ _ _ _ _ _ c.args.table.now _ _ _ _ _ c.ranges.ceiling c.numbers_lent-lent.ensures refl c.plan-answer.ensures _ _
+      within _ _ _ _ _ _ _ _ c.args.table.now _ _ _ _ _ c.ranges.ceiling c.min-lent.ensures refl c.plan-answer.ensures _ _
           c.search_ran.ensures c.numbers_used-used.ensures,
     )
 
-pub slice_bounds-clear-end : goal.slice_bounds-clear-end
-slice_bounds-clear-end c =
+pub slice_bounds-fill-end : goal.slice_bounds-fill-end
+slice_bounds-fill-end c =
     omega (
       arith,
-      within _ _ _ _ _ _ _ _ c.args.table.now _ _ _ _ _ c.ranges.ceiling c.numbers_lent-lent.ensures refl c.plan-answer.ensures _ _
+      within _ _ _ _ _ _ _ _ c.args.table.now _ _ _ _ _ c.ranges.ceiling c.min-lent.ensures refl c.plan-answer.ensures _ _
           c.search_ran.ensures c.numbers_used-used.ensures,
     )
 
-pub slice_bounds-clear-end-2 : goal.slice_bounds-clear-end-2
-slice_bounds-clear-end-2 c =
+pub slice_bounds-fill-end-2 : goal.slice_bounds-fill-end-2
+slice_bounds-fill-end-2 c =
     sym
     (length-take-le _ _
     (omega (
       arith,
-      within _ _ _ _ _ _ _ _ c.args.table.now _ _ _ _ _ c.ranges.ceiling c.numbers_lent-lent.ensures refl c.plan-answer.ensures _ _
+      within _ _ _ _ _ _ _ _ c.args.table.now _ _ _ _ _ c.ranges.ceiling c.min-lent.ensures refl c.plan-answer.ensures _ _
           c.search_ran.ensures c.numbers_used-used.ensures,
     )))
 
-pub packed_answer-requires : goal.packed_answer-requires
-packed_answer-requires c =
+pub packed_plan-requires : goal.packed_plan-requires
+packed_plan-requires c =
     fields-apart _ _ _ _ _ _ _ _ _ _ _
-    (planned _ _ _ _ _ _ _ _ c.args.table.now _ _ _ _ _ c.ranges.ceiling c.numbers_lent-lent.ensures refl c.plan-answer.ensures)
+    (planned _ _ _ _ _ _ _ _ c.args.table.now _ _ _ _ _ c.ranges.ceiling c.min-lent.ensures refl c.plan-answer.ensures)
 
 pub returns : goal.returns
 returns c =
+    let bytes : AllBytes c.args.table.now = λ i. search rules in
     all-given _ _ _ _ _ _ _ _ _ _ _
-    (planned _ _ _ _ _ _ _ _ c.args.table.now _ _ _ _ _ c.ranges.ceiling c.numbers_lent-lent.ensures refl c.plan-answer.ensures) _
-    (used _ _ _ _ _ _ _ _ c.args.table.now _ _ _ _ _ c.ranges.ceiling c.numbers_lent-lent.ensures refl c.plan-answer.ensures _ _
+    (planned _ _ _ _ _ _ _ _ c.args.table.now _ _ _ _ _ c.ranges.ceiling c.min-lent.ensures refl c.plan-answer.ensures) _
+    (used _ _ _ _ _ _ _ _ c.args.table.now _ _ _ _ _ c.ranges.ceiling c.min-lent.ensures refl c.plan-answer.ensures _ _
     c.search_ran.ensures c.numbers_used-used.ensures)
-    (λ i. (c.slice_known-2-1.given i).fits) _ _ c.packed_answer.ensures c.clear.ensures
+    bytes _ _ c.packed_plan.ensures (c.fill.ensures.after (λ y e. e))

@@ -5,6 +5,11 @@ use Rattle.planner.proofs.code.Testing.{told}
 use Rattle.planner.proofs.code.Dividing.{begin, further, found, nowhere}
 use Rattle.planner.proofs.limits.shares_divisor.Goals as goal
 
+pub overflow_add-d-end : goal.overflow_add-d-end
+overflow_add-d-end c =
+    let most = weight-passes _ _ c.requires in
+    record { fits = omega (arith, most.order, most.most) }
+
 pub loop-d-init : goal.loop-d-init
 loop-d-init c =
     begin _ _
@@ -12,11 +17,6 @@ loop-d-init c =
 pub returns-then-divides_both : goal.returns-then-divides_both
 returns-then-divides_both c =
     found _ _ _ c.loop-d.invariant (told c.divides_both.ensures c.if-divides_both.true)
-
-pub overflow_add-d : goal.overflow_add-d
-overflow_add-d c =
-    let most = weight-passes _ _ c.requires in
-    record { fits = omega (arith, c.loop-d-test.true, most.order, most.most) }
 
 pub loop-d-preserved : goal.loop-d-preserved
 loop-d-preserved c =

@@ -10,7 +10,7 @@ unfolding bad_move
 returns-then-byte-gt3 c =
     rw (lt-ltb 3 c.args.byte (omega arith))
 
-pub returns : goal.returns
+pub returns-else-byte-gt3 : goal.returns-else-byte-gt3
 unfolding bad_move
-returns c =
+returns-else-byte-gt3 c =
     rw (le-ltb 3 c.args.byte (omega arith))

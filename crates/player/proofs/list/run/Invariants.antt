@@ -1,5 +1,5 @@
--- What the loop of `player::list::run` keeps, and what falls at each turn. Assumes nothing.
-use Prim.Native.Nat.{ℕ, ◌-◌, ◌≤◌, ◌<◌}
+-- What the loop of `player::list::run` keeps. Assumes nothing.
+use Prim.Native.Nat.{ℕ, ◌≤◌, ◌<◌}
 use mathlib.Core.Path.{◌≡◌}
 use mathlib.Core.Bool.{false}
 use mathlib.Core.List.{List}
@@ -21,8 +21,4 @@ pub record Running (s : Shape) (b moves : List ℕ) (p : Position) (h i : ℕ) :
 
 abbrev pub invariant-loop-i : goal.invariant-loop-i
 invariant-loop-i l =
-    Running l.shape (held l.shape l.initial.p) l.moves l.p l.h l.i
-
-abbrev pub decreases-loop-i : goal.decreases-loop-i
-decreases-loop-i l =
-    length l.moves - l.i
+    Running l.cabinet.shape (held l.cabinet.shape l.initial.at.position) l.moves l.at.position l.at.h l.i

@@ -1,4 +1,5 @@
 -- `ends::ended_at` meets its contract: 17, 20 and 19 in their order. Assumes nothing.
+use mathlib.Core.Path.{sym, ◌∙◌}
 use borrow.Author.Tests.{lt-ltb, le-ltb}
 use Rattle.board.specs.Tests.{first_refusal}
 use Rattle.records.specs.Read.{end_tests}
@@ -15,12 +16,12 @@ unfolding end_tests first_refusal
 returns-then-end-bytes c =
     rw (le-ltb _ _ c.if-bytes-end.false, lt-ltb _ _ c.if-end-bytes.true)
 
-pub returns-then-mark_stands : goal.returns-then-mark_stands
-returns-then-mark_stands c =
-    end_whole _ _ _ _ c.if-bytes-end.false c.if-end-bytes.false c.mark_before-mark.ensures
-    c.mark_stands.ensures c.if-mark_stands.true
+pub returns-then-ne : goal.returns-then-ne
+returns-then-ne c =
+    end_wrong _ _ _ c.if-bytes-end.false c.if-end-bytes.false c.mark.ensures _ c.to_be_bytes-mark.ensures
+    (sym c.ne.ensures ∙ c.if-ne.true)
 
 pub returns : goal.returns
 returns c =
-    end_wrong _ _ _ _ c.if-bytes-end.false c.if-end-bytes.false c.mark_before-mark.ensures
-    c.mark_stands.ensures c.if-mark_stands.false
+    end_whole _ _ _ c.if-bytes-end.false c.if-end-bytes.false c.mark.ensures _ c.to_be_bytes-mark.ensures
+    (sym c.ne.ensures ∙ c.if-ne.false)

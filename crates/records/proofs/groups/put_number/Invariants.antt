@@ -1,4 +1,4 @@
--- What the loop of `records::groups::put_number` keeps, and what falls at each turn. Assumes nothing.
+-- What the loop of `records::groups::put_number` keeps. Assumes nothing.
 use Prim.Native.Nat.{ℕ, ◌+◌, ◌/◌}
 use mathlib.Core.Path.{◌≡◌}
 use mathlib.Core.List.{List, ◌++◌}
@@ -14,10 +14,6 @@ pub record Putting (n at : ℕ) (old new : List ℕ) (place rest : ℕ) : Type 0
   pub before : place ≡ at + length (leading rest)
   pub stored : new ≡ sets old place behind
 
-abbrev pub invariant-loop-rest : goal.invariant-loop-rest
-invariant-loop-rest l =
+abbrev pub invariant-loop-place : goal.invariant-loop-place
+invariant-loop-place l =
     Putting l.n l.at l.initial.out l.out l.place l.rest
-
-abbrev pub decreases-loop-rest : goal.decreases-loop-rest
-decreases-loop-rest l =
-    l.rest

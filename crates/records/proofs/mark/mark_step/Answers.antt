@@ -5,4 +5,4 @@ use Rattle.records.proofs.mark.mark_step.Goals as goal
 pub returns : goal.returns
 unfolding mark_step
 returns c =
-    c.times.ensures
+    rw c.from.ensures at c.times.ensures

@@ -1,4 +1,4 @@
--- What the loop of `records::scan::groups_at` keeps, and what falls at each turn. Assumes nothing.
+-- What the loop of `records::scan::groups_at` keeps. Assumes nothing.
 use Prim.Native.Nat.{ℕ, ◌-◌, ◌^◌, ◌≤◌, ◌<◌}
 use mathlib.Core.Path.{◌≡◌}
 use mathlib.Core.List.{List}
@@ -12,8 +12,4 @@ pub record Looked (bytes : List ℕ) (first value at count : ℕ) : Type 0 where
 
 abbrev pub invariant-loop-count : goal.invariant-loop-count
 invariant-loop-count l =
-    Looked l.bytes l.first l.value l.at l.count
-
-abbrev pub decreases-loop-count : goal.decreases-loop-count
-decreases-loop-count l =
-    5 - l.count
+    Looked l.bytes l.first l.value l.at l._count

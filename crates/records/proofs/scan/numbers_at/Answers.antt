@@ -1,29 +1,19 @@
--- `scan::numbers_at` meets its contract. The invariant: the first i numbers stand in the buffer, and what is found behind them is all
+-- `scan::numbers_at` meets its contract. The invariant: the first numbers stand in the buffer, and what is found behind them is all
 -- that is left to find. Assumes nothing.
-use native.Mathlib.Omega.{arith}
 use mathlib.Core.Path.{sym, ◌∙◌}
-use lib.ListN.{length-set}
-use Rattle.records.proofs.code.Taking.{taken_none, stops, goes_on_lem, all-taken}
+use Rattle.std.proofs.lemmas.Result.{err_from_is_err_and}
+use Rattle.records.proofs.code.Taking.{stops, goes_on_lem, all-taken}
 use Rattle.records.proofs.scan.numbers_at.Goals as goal
 
-pub loop-i-init : goal.loop-i-init
-loop-i-init c =
-    taken_none _ _ _
+pub returns-in_err-value : goal.returns-in_err-value
+returns-in_err-value c =
+    let p = err_from_is_err_and c.from_residual.result c.from_residual.ensures.1 in
+    rw (p.1, p.2) (stops _ _ _ _ _ _ c.loop-number.invariant _ c.loop-number-test.true (sym c.number_at.ensures ∙ c.in_err-value.was))
 
-pub returns-in-Faulty : goal.returns-in-Faulty
-returns-in-Faulty c =
-    stops _ _ _ _ _ _ c.loop-i.invariant _ c.loop-i-test.true
-    (sym c.number_at.ensures ∙ c.in-Faulty.is)
-
-pub loop-i-smaller : goal.loop-i-smaller
-loop-i-smaller c =
-    omega (arith, length-set c.loop-i.numbers c.loop-i.i c.in-Number.value)
-
-pub loop-i-preserved : goal.loop-i-preserved
-loop-i-preserved c =
-    goes_on_lem _ _ _ _ _ _ c.loop-i.invariant _ _ c.loop-i-test.true
-    (sym c.number_at.ensures ∙ c.in-Number.is)
+pub loop-number-preserved : goal.loop-number-preserved
+loop-number-preserved c =
+    goes_on_lem _ _ _ _ _ _ c.loop-number.invariant _ _ c.loop-number-test.true (sym c.number_at.ensures ∙ c.in_ok-value.was)
 
 pub returns : goal.returns
 returns c =
-    all-taken _ _ _ _ _ _ c.loop-i.invariant c.loop-i-test.false
+    all-taken _ _ _ _ _ _ c.loop-number.invariant c.loop-number-test.false
