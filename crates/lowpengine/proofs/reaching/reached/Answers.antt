@@ -10,3 +10,7 @@ hold-requires-clause-good_shape c =
 pub hold-requires-clause-board : goal.hold-requires-clause-board
 hold-requires-clause-board c =
     (sound_means _ _ _ _ (sym c.tested.ensures ∙ c.in_ok-shape.was)).2
+
+pub returns-then-is_odd : goal.returns-then-is_odd
+returns-then-is_odd c =
+    rw (sym c.tested.ensures ∙ c.in_ok-shape.was, ← c.hold.ensures.same, sym c.is_odd.ensures ∙ c.if-is_odd.true)

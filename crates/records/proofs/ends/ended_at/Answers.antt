@@ -16,12 +16,12 @@ unfolding end_tests first_refusal
 returns-then-end-bytes c =
     rw (le-ltb _ _ c.if-bytes-end.false, lt-ltb _ _ c.if-end-bytes.true)
 
-pub returns-then-ne : goal.returns-then-ne
-returns-then-ne c =
-    end_wrong _ _ _ c.if-bytes-end.false c.if-end-bytes.false c.mark.ensures _ c.to_be_bytes-mark.ensures
-    (sym c.ne.ensures ∙ c.if-ne.true)
-
 pub returns : goal.returns
 returns c =
     end_whole _ _ _ c.if-bytes-end.false c.if-end-bytes.false c.mark.ensures _ c.to_be_bytes-mark.ensures
     (sym c.ne.ensures ∙ c.if-ne.false)
+
+pub returns-then-ne : goal.returns-then-ne
+returns-then-ne c =
+    end_wrong _ _ _ c.if-bytes-end.false c.if-end-bytes.false c.mark.ensures _ c.to_be_bytes-mark.ensures
+    (sym c.ne.ensures ∙ c.if-ne.true)
