@@ -6,6 +6,11 @@ use Rattle.records.specs.Read.{end_tests}
 use Rattle.records.proofs.code.Reading.{end_whole, end_wrong}
 use Rattle.records.proofs.ends.ended_at.Goals as goal
 
+pub returns : goal.returns
+returns c =
+    end_whole _ _ _ c.if-bytes-end.false c.if-end-bytes.false c.mark.ensures _ c.to_be_bytes-mark.ensures
+    (sym c.ne.ensures ∙ c.if-ne.false)
+
 pub returns-then-bytes-end : goal.returns-then-bytes-end
 unfolding end_tests first_refusal
 returns-then-bytes-end c =
@@ -15,11 +20,6 @@ pub returns-then-end-bytes : goal.returns-then-end-bytes
 unfolding end_tests first_refusal
 returns-then-end-bytes c =
     rw (le-ltb _ _ c.if-bytes-end.false, lt-ltb _ _ c.if-end-bytes.true)
-
-pub returns : goal.returns
-returns c =
-    end_whole _ _ _ c.if-bytes-end.false c.if-end-bytes.false c.mark.ensures _ c.to_be_bytes-mark.ensures
-    (sym c.ne.ensures ∙ c.if-ne.false)
 
 pub returns-then-ne : goal.returns-then-ne
 returns-then-ne c =
