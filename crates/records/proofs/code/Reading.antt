@@ -1,6 +1,6 @@
 -- The reader's ways out as the code takes them: what each settles. First the tests of the end, then test 8 with the output, then the
 -- writer's answer, then the numbers one after the other. Assumes nothing.
-use Prim.Native.Nat.{ℕ, ◌+◌, ◌-◌, ◌*◌, ◌/◌, ◌%◌, ◌≤◌, ◌<◌}
+use Prim.Native.Nat.{ℕ, ◌+◌, ◌*◌, ◌/◌, ◌%◌, ◌≤◌, ◌<◌}
 use native.Mathlib.Omega.{arith}
 use mathlib.Core.Path.{◌≡◌, refl, sym, ap, subst, ◌∙◌}
 use mathlib.Core.Bool.{Bool, true, false, not, ◌&&◌}
@@ -51,36 +51,36 @@ and_true : (t : Bool) → t && true ≡ t
 and_true true = refl
 and_true false = refl
 
--- the last four bytes are compared with a mark's
-compared : (bytes : List ℕ) (end m : ℕ) → length bytes ≡ end + 4
-    → pointwise nat_eq (take (length bytes - end) (drop end bytes)) (mark_bytes m) ≡ mark_stands m bytes end
+-- the bytes behind a place, all of them, are compared with a mark's four
+compared : (bytes : List ℕ) (end m n : ℕ) → length bytes ≡ end + 4 → length bytes ≤ end + n
+    → pointwise nat_eq (take n (drop end bytes)) (mark_bytes m) ≡ mark_stands m bytes end
 unfolding mark_stands
-compared bytes end m long =
-    let all = take_all (length bytes - end) (drop end bytes) (omega (arith, length-drop end bytes)) in
+compared bytes end m n long whole =
+    let all = take_all n (drop end bytes) (omega (arith, length-drop end bytes)) in
     ap (λ l. pointwise nat_eq l (mark_bytes m)) (all ∙ four-left bytes end long)
     ∙ ap (λ t. eqb (get_or bytes end 0) (m / 16777216 % 256)
     && (eqb (get_or bytes (end + 1) 0) (m / 65536 % 256) && (eqb (get_or bytes (end + 2) 0) (m / 256 % 256) && t)))
     (and_true (eqb (get_or bytes (end + 3) 0) (m % 256)))
 
-module _ (bytes : List ℕ) (end m : ℕ) (enough : end + 4 ≤ length bytes) (most : length bytes ≤ end + 4)
+module _ (bytes : List ℕ) (end m n : ℕ) (enough : end + 4 ≤ length bytes) (most : length bytes ≤ end + 4)
     (marks : m ≡ mark (take end bytes)) (four : List ℕ) (are : four ≡ mark_bytes m) where
-  differ : (t : Bool) → not (pointwise nat_eq (take (length bytes - end) (drop end bytes)) four) ≡ t
+  differ : (t : Bool) → not (pointwise nat_eq (take n (drop end bytes)) four) ≡ t → length bytes ≤ end + n
       → not (mark_stands (mark (take end bytes)) bytes end) ≡ t
-  differ t e =
+  differ t e whole =
       ap (λ k. not (mark_stands k bytes end)) (sym marks)
-      ∙ ap not (sym (compared bytes end m (omega arith)))
-      ∙ ap (λ l. not (pointwise nat_eq (take (length bytes - end) (drop end bytes)) l)) (sym are)
+      ∙ ap not (sym (compared bytes end m n (omega arith) whole))
+      ∙ ap (λ l. not (pointwise nat_eq (take n (drop end bytes)) l)) (sym are)
       ∙ e
 
-  pub end_whole : not (pointwise nat_eq (take (length bytes - end) (drop end bytes)) four) ≡ false
+  pub end_whole : not (pointwise nat_eq (take n (drop end bytes)) four) ≡ false → length bytes ≤ end + n
       → Ok tt ≡ end_said (first_refusal (end_tests bytes end))
   unfolding end_tests first_refusal
-  end_whole e = rw (le-ltb (length bytes) (end + 4) enough, le-ltb (end + 4) (length bytes) most, differ false e)
+  end_whole e whole = rw (le-ltb (length bytes) (end + 4) enough, le-ltb (end + 4) (length bytes) most, differ false e whole)
 
-  pub end_wrong : not (pointwise nat_eq (take (length bytes - end) (drop end bytes)) four) ≡ true
+  pub end_wrong : not (pointwise nat_eq (take n (drop end bytes)) four) ≡ true → length bytes ≤ end + n
       → Err WrongMark ≡ end_said (first_refusal (end_tests bytes end))
   unfolding end_tests first_refusal
-  end_wrong e = rw (le-ltb (length bytes) (end + 4) enough, le-ltb (end + 4) (length bytes) most, differ true e)
+  end_wrong e whole = rw (le-ltb (length bytes) (end + 4) enough, le-ltb (end + 4) (length bytes) most, differ true e whole)
 
 -- ---- test 8
 

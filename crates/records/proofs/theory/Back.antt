@@ -181,7 +181,7 @@ module _ (bytes found : List ℕ) (each : Bytes bytes) where
   taken n cells at is none-met =
       let moves = moves_at bytes at n.length in
       let opened = numbers_opened bytes n cells at is in
-      let place = opened_place each opened in
+      let place = opened_place (opened.stand each) opened.read in
       let both = none-append (end_tests bytes (at + n.length)) _ (none_means _ none-met) in
       let ends = ends_of bytes (at + n.length) both.0 in
       let planned = none-under Plan (reading_tests n cells moves found) both.1 in

@@ -112,15 +112,15 @@ module _ (bytes : List ℕ) where
       (λ l long. record { wide = wide.1; high = high.1; long = long }) h.goes
 
 -- the place behind the numbers is as far as they are long
-pub opened_place : {bytes : List ℕ} {n : Numbers} {cells : List ℕ} {at : ℕ} → Bytes bytes → Opened bytes n cells at
+pub opened_place : {bytes : List ℕ} {n : Numbers} {cells : List ℕ} {at : ℕ} → Stand bytes 0 (listed n cells) at → NumbersRead bytes n cells at
     → at ≡ length (spelled (listed n cells))
-opened_place {bytes} {n} {cells} {at} each o =
+opened_place {bytes} {n} {cells} {at} stand read =
     omega (
       arith,
-      ap length (o.stand each).begins,
+      ap length stand.begins,
       length-append (spelled (listed n cells)) (drop at bytes),
       length-drop at bytes,
-      o.read.inside,
+      read.inside,
     )
 
 -- ---- what stands there is found

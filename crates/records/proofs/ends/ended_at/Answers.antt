@@ -1,5 +1,6 @@
 -- `ends::ended_at` meets its contract: 17, 20 and 19 in their order. Assumes nothing.
 use mathlib.Core.Path.{sym, ◌∙◌}
+use native.Mathlib.Omega.{arith}
 use borrow.Author.Tests.{lt-ltb, le-ltb}
 use Rattle.board.specs.Tests.{first_refusal}
 use Rattle.records.specs.Read.{end_tests}
@@ -8,8 +9,8 @@ use Rattle.records.proofs.ends.ended_at.Goals as goal
 
 pub returns : goal.returns
 returns c =
-    end_whole _ _ _ c.if-bytes-end.false c.if-end-bytes.false c.mark.ensures _ c.to_be_bytes-mark.ensures
-    (sym c.ne.ensures ∙ c.if-ne.false)
+    end_whole _ _ _ _ c.if-bytes-end.false c.if-end-bytes.false c.mark.ensures _ c.to_be_bytes-mark.ensures
+    (sym c.ne.ensures ∙ c.if-ne.false) (omega arith)
 
 pub returns-then-bytes-end : goal.returns-then-bytes-end
 unfolding end_tests first_refusal
@@ -23,5 +24,5 @@ returns-then-end-bytes c =
 
 pub returns-then-ne : goal.returns-then-ne
 returns-then-ne c =
-    end_wrong _ _ _ c.if-bytes-end.false c.if-end-bytes.false c.mark.ensures _ c.to_be_bytes-mark.ensures
-    (sym c.ne.ensures ∙ c.if-ne.true)
+    end_wrong _ _ _ _ c.if-bytes-end.false c.if-end-bytes.false c.mark.ensures _ c.to_be_bytes-mark.ensures
+    (sym c.ne.ensures ∙ c.if-ne.true) (omega arith)
