@@ -1,11 +1,11 @@
 -- The loop that looks for a number above 1 that divides both p and q, by going up from 2: `Sought p q d` is its invariant at d.
 --     begin     it holds at 2
---     further   where d does not divide both, it holds at d + 1
+--     further   where d, which was tried, does not divide both, it holds at d + 1
 --     found     where d does, the test for 15 holds
 --     nowhere   past q it does not: no number above q divides q
 -- Assumes nothing.
 use Prim.Native.Nat.{ℕ, ◌+◌, ◌≤◌, ◌<◌}
-use mathlib.Core.Path.{◌≡◌, refl, sym, ◌∙◌}
+use mathlib.Core.Path.{◌≡◌, refl, sym, ap, ◌∙◌}
 use mathlib.Core.Bool.{Bool, true, false, true≢false}
 use mathlib.Core.Logic.{◌⊎◌, inl, inr}
 use native.Mathlib.Nat.{eq-or-lt_of_le, le_of_dvd}
@@ -23,19 +23,22 @@ module _ (p q : ℕ) where
   begin = record { low = omega arith; none = λ e low high. absurd (omega arith) }
 
   module _ (d : ℕ) (sought : Sought p q d) where
-    pub further : divides_both p q d ≡ false → Sought p q (d + 1)
-    further fails = record { low = omega (arith, sought.low); none = λ e low high. go e low (eq-or-lt_of_le (below e high)) }
+    pub further : {tried : ℕ} → divides_both p q tried ≡ false → d ≡ tried → Sought p q (d + 1)
+    further not-tried is-d = record { low = omega (arith, sought.low); none = λ e low high. go e low (eq-or-lt_of_le (below e high)) }
       where
         below : (e : ℕ) → e < d + 1 → e ≤ d
         below e high = omega arith
+
+        fails : divides_both p q d ≡ false
+        fails = ap (divides_both p q) is-d ∙ not-tried
 
         go : (e : ℕ) → 2 ≤ e → (e ≡ d) ⊎ (e < d) → divides_both p q e ≡ false
         go e low (inl is) = rw is fails
         go e low (inr high) = sought.none e low high
 
-    pub found : divides_both p q d ≡ true → true ≡ shares_divisor p q
-    found holds =
-        let it = divides_given p q d holds in
+    pub found : {tried : ℕ} → divides_both p q tried ≡ true → d ≡ tried → true ≡ shares_divisor p q
+    found holds is-d =
+        let it = divides_given p q d (ap (divides_both p q) is-d ∙ holds) in
         sym ((shares_exactly p q).1 (record { divisor = d; above = omega (arith, sought.low); of-p = it.0; of-q = it.1 }))
 
     pub nowhere : 1 ≤ q → q < d → false ≡ shares_divisor p q

@@ -86,30 +86,33 @@ module _ (job : Job) (b : List ℕ) (last g stored bound left : ℕ) (table move
   pub none_left : left ≡ 0 → Ran g (visited job b last g stored bound left) table moves Spent table moves
   none_left e = ran_for (sym (visit-none _ _ job.ceiling g b last stored bound (job.ceiling - g) left e)) refl (ran-spent g table moves)
 
-  module _ (some : left ≡ 0 → ⊥) where
-    pub at-goal : is_goal job.shape b ≡ true
-        → Ran g (visited job b last g stored bound left) table moves (Found g (left - 1)) table moves
+  -- a visit is counted: `rest` are left
+  module _ (some : left ≡ 0 → ⊥) (rest : ℕ) (counted : rest ≡ left - 1) where
+    pub at-goal : is_goal job.shape b ≡ true → Ran g (visited job b last g stored bound left) table moves (Found g rest) table moves
     at-goal e =
-        ran_for (sym (visit-goal (boards job.shape) _ job.ceiling g b last stored bound (job.ceiling - g) left some e)) refl
-        (ran-found-here g table moves (left - 1))
+        ran_for
+        (ap (found []) counted ∙ sym (visit-goal (boards job.shape) _ job.ceiling g b last stored bound (job.ceiling - g) left some e))
+        refl
+        (ran-found-here g table moves rest)
 
     module _ (away : is_goal job.shape b ≡ false) where
-      pub at-ceiling : g ≡ job.ceiling
-          → Ran g (visited job b last g stored bound left) table moves (Value infinity (left - 1)) table moves
+      pub at-ceiling : g ≡ job.ceiling → Ran g (visited job b last g stored bound left) table moves (Value infinity rest) table moves
       at-ceiling e =
           ran_for
-          (sym (visit-ceiling (boards job.shape) _ job.ceiling g b last stored bound (job.ceiling - g) left some away (omega arith)))
+          (ap (value infinity) counted
+          ∙ sym (visit-ceiling (boards job.shape) _ job.ceiling g b last stored bound (job.ceiling - g) left some away (omega arith)))
           refl
-          (ran-value g table moves infinity (left - 1))
+          (ran-value g table moves infinity rest)
 
       -- the work on the row that was put into the table
       pub works : g < job.ceiling → 4 * (g + 1) ≤ length table → (put : List ℕ) → put ≡ put_row table g (starting_row job b last g stored)
           → {r : Out} {table' moves' : List ℕ}
-          → Ran g (worked job b g bound (row_at put g) (left - 1)) put moves r table' moves'
+          → Ran g (worked job b g bound (row_at put g) rest) put moves r table' moves'
           → Ran g (visited job b last g stored bound left) table moves r table' moves'
       works further fits put e =
           ran_for
-          (ap (λ (l : List ℕ). worked job b g bound l (left - 1)) (row-put-is job b last g stored table put fits e)
+          (ap (λ (l : List ℕ). worked job b g bound l rest) (row-put-is job b last g stored table put fits e)
+          ∙ ap (λ (k : ℕ). worked job b g bound (starting_row job b last g stored) k) counted
           ∙ sym (visit-works (boards job.shape) _ job.ceiling g b last stored bound (job.ceiling - g) (job.ceiling - suc g) left
           some away (omega arith)))
           (rows-below job b last g stored table put fits e)

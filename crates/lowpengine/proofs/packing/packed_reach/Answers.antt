@@ -36,5 +36,8 @@ ends w h b r o is e = ap told (sym e ∙ is) ∙ whole w h b (tested w h b) refl
 pub returns-in-Ok : goal.returns-in-Ok
 returns-in-Ok c = ends _ _ _ _ _ c.reached.ensures c.in-Ok.is
 
+as_told : {all result wanted : ℕ} → all ≡ wanted → result ≡ all → result ≡ wanted
+as_told e is = is ∙ e
+
 pub returns-in-Err : goal.returns-in-Err
-returns-in-Err c = c.with_detail.ensures ∙ ends _ _ _ _ _ c.reached.ensures c.in-Err.is
+returns-in-Err c = as_told (c.with_detail.ensures ∙ ends _ _ _ _ _ c.reached.ensures c.in-Err.is) (omega arith)

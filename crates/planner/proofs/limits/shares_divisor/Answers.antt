@@ -16,11 +16,11 @@ loop-d-init c =
 
 pub returns-then-divides_both : goal.returns-then-divides_both
 returns-then-divides_both c =
-    found _ _ _ c.loop-d.invariant (told c.divides_both.ensures c.if-divides_both.true)
+    found _ _ _ c.loop-d.invariant (told c.divides_both.ensures c.if-divides_both.true) (omega arith)
 
 pub loop-d-preserved : goal.loop-d-preserved
 loop-d-preserved c =
-    further _ _ _ c.loop-d.invariant (told c.divides_both.ensures c.if-divides_both.false)
+    further _ _ _ c.loop-d.invariant (told c.divides_both.ensures c.if-divides_both.false) (omega arith)
 
 pub returns : goal.returns
 returns c =

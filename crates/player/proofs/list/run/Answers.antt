@@ -44,10 +44,11 @@ module _ (s : Shape) (b moves : List ℕ) (p : Position) (h i m : ℕ) (running 
           (ap₂ (λ board k. after s board k) running.at.same byte
           ∙ sym (end-next s b moves i below))
 
-  stops : (why : PlayRefusal) → i < length moves → legal s (held s p) m ≡ false → why ≡ bad_move (get_or moves i 0) i
-      → Stopped s b moves why
+  stops : {why : PlayRefusal} {place : ℕ} → i < length moves → legal s (held s p) m ≡ false → why ≡ bad_move (get_or moves i 0) place
+      → place ≡ i → Stopped s b moves why
   unfolding first_bad
-  stops why below e told = record { inside = omega (arith, here); refused = rw (← here) told }
+  stops below e told is-i =
+      record { inside = omega (arith, here); refused = rw (← here) (told ∙ ap (bad_move (get_or moves i 0)) is-i) }
     where
       here : i ≡ first_bad s b moves
       here =
@@ -88,8 +89,8 @@ legal-requires c =
 
 pub returns-then-not-legal : goal.returns-then-not-legal
 returns-then-not-legal c =
-    stops _ _ _ _ _ _ _ c.loop-i.invariant c.from-m.ensures _ c.loop-i-test.true (sym c.legal.ensures ∙ c.if-not-legal.true)
-    c.refused_move.ensures
+    stops _ _ _ _ _ _ _ c.loop-i.invariant c.from-m.ensures c.loop-i-test.true (sym c.legal.ensures ∙ c.if-not-legal.true)
+    c.refused_move.ensures (omega arith)
 
 pub loop-i-preserved : goal.loop-i-preserved
 loop-i-preserved c =

@@ -36,11 +36,11 @@ visit-returns-then-left-eq0 t c = none_left _ _ _ _ _ _ _ _ _ c.if-left-eq0.true
 
 pub visit-returns-then-at-eq0 : goal.visit-returns-then-at-eq0
 visit-returns-then-at-eq0 t c =
-    at-goal _ _ _ _ _ _ _ _ _ c.if-left-eq0.false (at_zero _ _ _ c.requires.kept c.if-at-eq0.true)
+    at-goal _ _ _ _ _ _ _ _ _ c.if-left-eq0.false _ (omega arith) (at_zero _ _ _ c.requires.kept c.if-at-eq0.true)
 
 pub visit-returns-then-g-self : goal.visit-returns-then-g-self
 visit-returns-then-g-self t c =
-    at-ceiling _ _ _ _ _ _ _ _ _ c.if-left-eq0.false (away _ _ _ c.requires.kept c.if-at-eq0.false) c.if-g-self.true
+    at-ceiling _ _ _ _ _ _ _ _ _ c.if-left-eq0.false _ (omega arith) (away _ _ _ c.requires.kept c.if-at-eq0.false) c.if-g-self.true
 
 pub visit-work-requires : goal.visit-work-requires
 visit-work-requires t c =
@@ -54,7 +54,7 @@ visit-work-requires t c =
 pub visit-returns : goal.visit-returns
 visit-returns t c =
     let pre = c.requires in
-    works _ _ _ _ _ _ _ _ _ c.if-left-eq0.false (away _ _ _ pre.kept c.if-at-eq0.false) (omega arith)
+    works _ _ _ _ _ _ _ _ _ c.if-left-eq0.false _ (omega arith) (away _ _ _ pre.kept c.if-at-eq0.false) (omega arith)
     (row_fits pre.room pre.last_bound.1) _ c.first_row.ensures c.work.ensures
 
 -- ---- work

@@ -16,14 +16,14 @@ use Rattle.records.proofs.put.Parts.put.Goals.{After-put_bytes-end}
 use Rattle.records.proofs.put.Parts.put.Goals as goal
 
 -- what was put stands before the place behind it, so its mark is the mark of what stands there
-sealed_put : {bytes four old mid new : List ℕ} {m next end : ℕ} → Put bytes old 0 mid next → length (sealed bytes) ≤ length old
-    → m ≡ mark (take next mid) → four ≡ mark_bytes m → Put four mid next new end → Put (sealed bytes) old 0 new end
+sealed_put : {bytes four old mid new : List ℕ} {m written next end : ℕ} → Put bytes old 0 mid next → length (sealed bytes) ≤ length old
+    → m ≡ mark (take next mid) → four ≡ mark_bytes written → Put four mid next new end → written ≡ m → Put (sealed bytes) old 0 new end
 unfolding sealed
-sealed_put {bytes} {four} {old} {mid} {new} {m} {next} {end} put room marks are behind =
+sealed_put {bytes} {four} {old} {mid} {new} {m} {written} {next} {end} put room marks are behind is =
     let stands : take next mid ≡ bytes =
     ap (take next) (put_front put (omega (arith, sealed-length bytes)))
     ∙ take_at bytes (drop (length bytes) old) next (omega (arith, put.end)) in
-    put_then put (subst (λ l. Put l mid next new end) (are ∙ ap mark_bytes (marks ∙ ap mark stands)) behind)
+    put_then put (subst (λ l. Put l mid next new end) (are ∙ ap mark_bytes (is ∙ marks ∙ ap mark stands)) behind)
 
 -- all pieces
 whole : (c : After-put_bytes-end) → Put (body_of c.args.self.now) c.args.out.now 0 c.put_bytes-end.new.out c.put_bytes-end.result
@@ -66,3 +66,4 @@ put_bytes-requires c =
 pub returns : goal.returns
 returns c =
     sealed_put (whole (goal.at.returns c).After-put_bytes-end) c.requires c.mark-mark.ensures c.to_be_bytes.ensures c.put_bytes.ensures
+    (omega arith)
