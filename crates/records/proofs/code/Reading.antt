@@ -63,24 +63,26 @@ compared bytes end m n long whole =
     (and_true (eqb (get_or bytes (end + 3) 0) (m % 256)))
 
 module _ (bytes : List ℕ) (end m n : ℕ) (enough : end + 4 ≤ length bytes) (most : length bytes ≤ end + 4)
-    (marks : m ≡ mark (take end bytes)) (four : List ℕ) (are : four ≡ mark_bytes m) where
-  differ : (t : Bool) → not (pointwise nat_eq (take n (drop end bytes)) four) ≡ t → length bytes ≤ end + n
+    (marks : m ≡ mark (take end bytes)) (four : List ℕ) where
+  differ : (t : Bool) → not (pointwise nat_eq (take n (drop end bytes)) four) ≡ t → length bytes ≤ end + n → four ≡ mark_bytes m
       → not (mark_stands (mark (take end bytes)) bytes end) ≡ t
-  differ t e whole =
+  differ t e whole are =
       ap (λ k. not (mark_stands k bytes end)) (sym marks)
       ∙ ap not (sym (compared bytes end m n (omega arith) whole))
       ∙ ap (λ l. not (pointwise nat_eq (take n (drop end bytes)) l)) (sym are)
       ∙ e
 
-  pub end_whole : not (pointwise nat_eq (take n (drop end bytes)) four) ≡ false → length bytes ≤ end + n
+  pub end_whole : not (pointwise nat_eq (take n (drop end bytes)) four) ≡ false → length bytes ≤ end + n → four ≡ mark_bytes m
       → Ok tt ≡ end_said (first_refusal (end_tests bytes end))
   unfolding end_tests first_refusal
-  end_whole e whole = rw (le-ltb (length bytes) (end + 4) enough, le-ltb (end + 4) (length bytes) most, differ false e whole)
+  end_whole e whole are =
+      rw (le-ltb (length bytes) (end + 4) enough, le-ltb (end + 4) (length bytes) most, differ false e whole are)
 
-  pub end_wrong : not (pointwise nat_eq (take n (drop end bytes)) four) ≡ true → length bytes ≤ end + n
+  pub end_wrong : not (pointwise nat_eq (take n (drop end bytes)) four) ≡ true → length bytes ≤ end + n → four ≡ mark_bytes m
       → Err WrongMark ≡ end_said (first_refusal (end_tests bytes end))
   unfolding end_tests first_refusal
-  end_wrong e whole = rw (le-ltb (length bytes) (end + 4) enough, le-ltb (end + 4) (length bytes) most, differ true e whole)
+  end_wrong e whole are =
+      rw (le-ltb (length bytes) (end + 4) enough, le-ltb (end + 4) (length bytes) most, differ true e whole are)
 
 -- ---- test 8
 

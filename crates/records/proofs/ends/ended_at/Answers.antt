@@ -1,6 +1,7 @@
--- `ends::ended_at` meets its contract: 17, 20 and 19 in their order. Assumes nothing.
-use mathlib.Core.Path.{sym, ◌∙◌}
-use native.Mathlib.Omega.{arith}
+-- `ends::ended_at` meets its contract: 17, 20 and 19 in their order. What is compared is all of the bytes behind the moves and all four of
+-- the mark, also where it is a slice of them that leaves none out (`take_all`). Assumes nothing.
+use Rattle.std.proofs.Common.{sym, ◌∙◌, arith, rules}
+use Rattle.std.proofs.lemmas.List.{take_all}
 use borrow.Author.Tests.{lt-ltb, le-ltb}
 use Rattle.board.specs.Tests.{first_refusal}
 use Rattle.records.specs.Read.{end_tests}
@@ -9,8 +10,8 @@ use Rattle.records.proofs.ends.ended_at.Goals as goal
 
 pub returns : goal.returns
 returns c =
-    end_whole _ _ _ _ c.if-bytes-end.false c.if-end-bytes.false c.mark.ensures _ c.to_be_bytes-mark.ensures
-    (sym c.ne.ensures ∙ c.if-ne.false) (omega arith)
+    end_whole _ _ _ _ c.if-bytes-end.false c.if-end-bytes.false c.mark.ensures _ (sym c.ne.ensures ∙ c.if-ne.false) (omega arith)
+    (search (rules, take_all))
 
 pub returns-then-bytes-end : goal.returns-then-bytes-end
 unfolding end_tests first_refusal
@@ -24,5 +25,5 @@ returns-then-end-bytes c =
 
 pub returns-then-ne : goal.returns-then-ne
 returns-then-ne c =
-    end_wrong _ _ _ _ c.if-bytes-end.false c.if-end-bytes.false c.mark.ensures _ c.to_be_bytes-mark.ensures
-    (sym c.ne.ensures ∙ c.if-ne.true) (omega arith)
+    end_wrong _ _ _ _ c.if-bytes-end.false c.if-end-bytes.false c.mark.ensures _ (sym c.ne.ensures ∙ c.if-ne.true) (omega arith)
+    (search (rules, take_all))
