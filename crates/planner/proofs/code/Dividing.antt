@@ -1,7 +1,7 @@
 -- The loop that looks for a number above 1 that divides both p and q, by going up from 2: `Sought p q d` is its invariant at d.
 --     begin     it holds at 2
---     further   where d, which was tried, does not divide both, it holds at d + 1
---     found     where d does, the test for 15 holds
+--     further   where d, the number that was tried, does not divide both, it holds at d + 1
+--     found     where it does, the test for 15 holds
 --     nowhere   past q it does not: no number above q divides q
 -- Assumes nothing.
 use Prim.Native.Nat.{ℕ, ◌+◌, ◌≤◌, ◌<◌}
@@ -24,16 +24,13 @@ module _ (p q : ℕ) where
 
   module _ (d : ℕ) (sought : Sought p q d) where
     pub further : {tried : ℕ} → divides_both p q tried ≡ false → d ≡ tried → Sought p q (d + 1)
-    further not-tried is-d = record { low = omega (arith, sought.low); none = λ e low high. go e low (eq-or-lt_of_le (below e high)) }
+    further fails is-d = record { low = omega (arith, sought.low); none = λ e low high. go e low (eq-or-lt_of_le (below e high)) }
       where
         below : (e : ℕ) → e < d + 1 → e ≤ d
         below e high = omega arith
 
-        fails : divides_both p q d ≡ false
-        fails = ap (divides_both p q) is-d ∙ not-tried
-
         go : (e : ℕ) → 2 ≤ e → (e ≡ d) ⊎ (e < d) → divides_both p q e ≡ false
-        go e low (inl is) = rw is fails
+        go e low (inl is) = rw is (ap (divides_both p q) is-d ∙ fails)
         go e low (inr high) = sought.none e low high
 
     pub found : {tried : ℕ} → divides_both p q tried ≡ true → d ≡ tried → true ≡ shares_divisor p q

@@ -112,8 +112,8 @@ module _ (bytes : List ℕ) where
       (λ l long. record { wide = wide.1; high = high.1; long = long }) h.goes
 
 -- the place behind the numbers is as far as they are long
-pub opened_place : {bytes : List ℕ} {n : Numbers} {cells : List ℕ} {at : ℕ} → Stand bytes 0 (listed n cells) at → NumbersRead bytes n cells at
-    → at ≡ length (spelled (listed n cells))
+pub opened_place : {bytes : List ℕ} {n : Numbers} {cells : List ℕ} {at : ℕ}
+    → Stand bytes 0 (listed n cells) at → NumbersRead bytes n cells at → at ≡ length (spelled (listed n cells))
 opened_place {bytes} {n} {cells} {at} stand read =
     omega (
       arith,

@@ -33,11 +33,12 @@ whole w h b (Ok s) e = by-parity (is_odd s b)
 ends : (w h : ℕ) (b : List ℕ) (r o : Result Unit Refusal) → r ≡ reached w h b → r ≡ o → told o ≡ packed_reach w h b
 ends w h b r o is e = ap told (sym e ∙ is) ∙ whole w h b (tested w h b) refl
 
+-- the result is the number that was made, and no other
+as_made : {made result wanted : ℕ} → made ≡ wanted → result ≡ made → result ≡ wanted
+as_made e is = is ∙ e
+
 pub returns-in-Ok : goal.returns-in-Ok
 returns-in-Ok c = ends _ _ _ _ _ c.reached.ensures c.in-Ok.is
 
-as_told : {all result wanted : ℕ} → all ≡ wanted → result ≡ all → result ≡ wanted
-as_told e is = is ∙ e
-
 pub returns-in-Err : goal.returns-in-Err
-returns-in-Err c = as_told (c.with_detail.ensures ∙ ends _ _ _ _ _ c.reached.ensures c.in-Err.is) (omega arith)
+returns-in-Err c = as_made (c.with_detail.ensures ∙ ends _ _ _ _ _ c.reached.ensures c.in-Err.is) (omega arith)
